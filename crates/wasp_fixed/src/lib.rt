@@ -9,8 +9,13 @@
 //! on curves speaks of them. Nothing here refuses or takes memory.
 #![tactic(auto)]
 
+mod discounts;
 mod memory;
 mod numbers;
 
+pub use discounts::{discount, half_factor, middle};
 pub use memory::OutOfMemory;
 pub use numbers::{M, ONE, mul_div_floor};
+
+#[cfg(test)]
+mod tests;
