@@ -1,0 +1,3 @@
+pub mod CellList
+pub mod EquivalentLoad
+pub mod ExactLoad
