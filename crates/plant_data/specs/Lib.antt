@@ -1,0 +1,4 @@
+pub mod Accepted
+pub mod Configs
+pub mod Shapes
+pub mod Units
