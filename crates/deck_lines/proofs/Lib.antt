@@ -1,0 +1,5 @@
+pub mod Bytewise
+pub mod FieldSteps
+pub mod Ranges
+pub mod InForms
+mod Rows

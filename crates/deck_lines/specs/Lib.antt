@@ -1,0 +1,5 @@
+pub mod Words
+pub mod LineFault
+pub mod Body
+pub mod Statements
+pub mod FirstPath

@@ -1,0 +1,55 @@
+//! What the words of a line state.
+ghost use Rattle.std.specs.Prelude.{◌≡◌, IfOk};
+ghost use Rattle.deck_lines.specs.LineFault.{Gives};
+ghost use Rattle.deck_lines.specs.Statements as spec;
+ghost use Rattle.deck_lines.specs.Statements.{IsStatement};
+
+use crate::body::Body;
+use crate::fault::{LineError, LineKind};
+use crate::fields::{fields, groups, name};
+use crate::form::Form;
+use crate::head::headed_by;
+use crate::head_word::HeadWord;
+use crate::scan::Words;
+use crate::statement::Statement;
+use std::alloc::Global;
+
+/// What the words behind a head word state. `end` is the column where a missing word is looked for.
+#[tactic(auto, unfolding(crate::specs::Statements::statement_of))]
+fn statement(
+    alloc: Global,
+    word: HeadWord,
+    end: usize,
+    words: &mut Words,
+) -> Result<Statement, LineError>
+    ensures { Gives (λ s. s) result (spec.statement_of word end words.old) }
+{
+    let form = Form::of(word);
+    let mut index = Vec::new(alloc);
+    fields(form.index, end, words, &mut index)?;
+    let name = name(alloc, form.naming, end, words)?;
+    let mut numbers = Vec::new(alloc);
+    groups(&form, end, words, &mut numbers)?;
+    Ok(Statement {
+        head: headed_by(word, &index),
+        body: Body::new(name, numbers),
+    })
+}
+
+/// What the words of a line of the deck state.
+pub(crate) fn stated_by(
+    alloc: Global,
+    end: usize,
+    words: &mut Words,
+) -> Result<Statement, LineError>
+    ensures exact { Gives (λ s. s) result (spec.stated_by end words.old) }
+    ensures in_form { IfOk result (λ s. IsStatement s) }
+{
+    let Some(first) = words.next() else {
+        return Err(LineError::at(LineKind::Word, 1));
+    };
+    match HeadWord::from_text(first.text) {
+        None => Err(LineError::at(LineKind::Word, first.column)),
+        Some(word) => statement(alloc, word, end, words),
+    }
+}

@@ -1,0 +1,6 @@
+pub mod BookSteps
+pub mod CellSteps
+pub mod CodeParts
+pub mod Radix
+pub mod ThermalSteps
+pub mod WaterSteps
