@@ -1,0 +1,51 @@
+-- Which counts are listed and accepted, and the least-cost one, as CONGEN and DYNPRO have them (IAEA Computer Manual
+-- Series No. 16). That equality passes at every bound, and the least count is taken among equal costs, is this program's own.
+use Rattle.std.specs.Prelude.{◌≡◌, ◌&&◌, ◌+◌, ◌*◌, ◌<◌, ◌≤◌, ℕ, Bool, List, [], ◌∷◌, All, Contains, Option, None, Some, MatchOption, nat_le, filter, if◌then◌else◌}
+use Rattle.std.specs.List.{range_with_len}
+use Rattle.std.specs.List.Sorted.{IsStrictlyIncreasing}
+use Rattle.plant_data.specs.declared.row.Row.{Row}
+use Rattle.wasp4.specs.declared.case.Case.{Case}
+use Rattle.wasp4.specs.Row.{row}
+use Rattle.wasp4.specs.Cost.{cost}
+
+-- the capacity of so many units is between the two margins over the peak, in ten-thousandths of it
+abbrev pub keeps_margin : Case → ℕ → Bool
+keeps_margin case count = nat_le (case.low * case.peak) (10000 * (count * case.full)) && nat_le (10000 * (count * case.full)) (case.high * case.peak)
+
+-- the counts in the tunnel that keep the margin, rising
+abbrev pub listed : Case → List ℕ
+listed case = filter (keeps_margin case) (range_with_len case.least (case.width + 1))
+
+-- both loss-of-load probabilities are within their limits
+abbrev pub keeps_limit : Case → Row → Bool
+keeps_limit case r = nat_le r.worst case.worst && nat_le r.average case.average
+
+-- the counts that may be planned, rising
+abbrev pub accepted : Case → List ℕ
+accepted case = filter (λ count. keeps_limit case (row case count)) (listed case)
+
+-- the first of two is kept where it costs no more
+abbrev pub cheaper : (ℕ → ℕ) → ℕ → Option ℕ → ℕ
+cheaper cost_of x None = x
+cheaper cost_of x (Some y) = if nat_le (cost_of x) (cost_of y) then x else y
+
+-- the one of least cost, the first among equals, and none where there are none
+unfoldable pub least_cost : (ℕ → ℕ) → List ℕ → Option ℕ
+least_cost cost_of [] = None
+least_cost cost_of (x ∷ xs) = Some (cheaper cost_of x (least_cost cost_of xs))
+
+-- the count that is planned
+abbrev pub chosen : Case → Option ℕ
+chosen case = least_cost (cost case) (accepted case)
+
+-- ---- what it means
+
+-- one of them, none costs less, and each that costs as much is no smaller
+pub record IsLeast (cost_of : ℕ → ℕ) (xs : List ℕ) (x : ℕ) : Type 0 where
+  pub is_one : Contains xs x
+  pub costs_least : All (λ y. cost_of x ≤ cost_of y) xs
+  pub least_of_equals : All (λ y. cost_of y ≡ cost_of x → x ≤ y) xs
+
+-- in a rising list the least-cost one is that, and there is none only where the list is empty
+abbrev pub LeastCostIsLeast : Type 0
+LeastCostIsLeast = (cost_of : ℕ → ℕ) (xs : List ℕ) → IsStrictlyIncreasing xs → MatchOption (least_cost cost_of xs) (xs ≡ []) (IsLeast cost_of xs)

@@ -1,0 +1,6 @@
+pub mod Case
+pub mod Chosen
+pub mod Cost
+pub mod Out
+pub mod Progress
+pub mod Row

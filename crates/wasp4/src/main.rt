@@ -1,0 +1,8 @@
+//! `wasp4`, begun.
+#![tactic(auto)]
+
+mod case;
+mod simulate;
+mod status;
+
+fn main(rt: HostRuntime) {}

@@ -1,0 +1,51 @@
+//! How a turn, a script and a run end.
+ghost use Rattle.std.specs.Prelude.{◌≡◌};
+ghost use Rattle.wasp4.specs.Progress.{status_of};
+
+/// How a script that was read ends.
+#[derive(Clone, Copy, Debug, PartialEq, Eq)]
+pub enum Ending {
+    Done,
+    Malformed,
+}
+
+/// What comes after a line was looked for.
+#[derive(Clone, Copy, Debug, PartialEq, Eq)]
+pub(crate) enum Turn {
+    /// The line was taken, and the script goes on.
+    Goes,
+    /// The script is over.
+    Over(Ending),
+    /// The source failed.
+    Failed,
+}
+
+/// How a run ends. The exit statuses of the program are 0 to 6, in this order.
+#[derive(Clone, Copy, Debug, PartialEq, Eq)]
+pub enum Status {
+    /// The script was read to its end.
+    Done,
+    /// A check said no. No command that says so is built yet.
+    CheckNo,
+    /// A line of the script is not the line of its number; the text shows which.
+    Malformed,
+    /// The words of the command line are none of the forms.
+    BadWords,
+    /// Memory was wanted and not had.
+    OutOfMemory,
+    /// The source failed.
+    ReadFault,
+    /// The sink failed.
+    WriteFault,
+}
+
+impl Ending {
+    pub(crate) fn status(self) -> Status
+        ensures { result ≡ status_of self }
+    {
+        match self {
+            Ending::Done => Status::Done,
+            Ending::Malformed => Status::Malformed,
+        }
+    }
+}
