@@ -43,6 +43,10 @@ upkeep case count r = (12000 * (count * case.full * case.fixed) + r.variable) * 
 abbrev pub not_served : Case → Row → ℕ
 not_served case r = r.unserved * case.ens * mid_factor rate 0 / (100 * ONE)
 
+-- the cost of so many units, by their row
+abbrev pub cost_by : Case → ℕ → Row → ℕ
+cost_by case count r = build case count - salvage case count + stock case count + fuel r + upkeep case count r + not_served case r
+
 -- the cost of so many units
 abbrev pub cost : Case → ℕ → ℕ
-cost case count = build case count - salvage case count + stock case count + fuel (row case count) + upkeep case count (row case count) + not_served case (row case count)
+cost case count = cost_by case count (row case count)

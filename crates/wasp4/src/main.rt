@@ -2,6 +2,7 @@
 #![tactic(auto)]
 
 mod case;
+mod costs;
 mod simulate;
 mod status;
 
