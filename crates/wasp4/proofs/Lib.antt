@@ -1,3 +1,4 @@
 pub mod Bounds
+pub mod Choosing
 pub mod Costing
 pub mod Loading

@@ -2,6 +2,7 @@
 #![tactic(auto)]
 
 mod case;
+mod choose;
 mod costs;
 mod simulate;
 mod status;
