@@ -5,22 +5,23 @@ use Rattle.line_reader.specs.Lines.{lines_of}
 use Rattle.deck_lines.specs.FirstPath.{first_line}
 use Rattle.deck_lines.specs.declared.statement.Statement.{Statement}
 use Rattle.wasp4.specs.declared.case.Case.{Case}
+use Rattle.wasp4.specs.declared.choose.Best.{Best}
 use Rattle.wasp4.specs.declared.status.Ending.{Ending}
 use Rattle.wasp4.specs.declared.status.Ending.TheVariants as endings
 use Rattle.wasp4.specs.Case.{empty, is_fitting, with_line}
 use Rattle.wasp4.specs.Cost.{cost}
-use Rattle.wasp4.specs.Chosen.{chosen, listed}
+use Rattle.wasp4.specs.Chosen.{chosen, listed, with_cost}
 
 -- ---- the report
 
 -- the count of least cost with its sum, or that none is admissible
-abbrev pub choice_text : Case → Option ℕ → List ℕ
-choice_text case (Some count) = codes "CHOSEN 1 " ++ decimal count ++ codes "\nTOTAL " ++ decimal (cost case count) ++ codes "\n"
-choice_text case None = codes "INFEASIBLE 1\n"
+abbrev pub choice_text : Option Best → List ℕ
+choice_text None = codes "INFEASIBLE 1\n"
+choice_text (Some best) = codes "CHOSEN 1 " ++ decimal best.count ++ codes "\nTOTAL " ++ decimal best.cost ++ codes "\n"
 
 -- the short report of the one PLAN
 abbrev pub report : Case → List ℕ
-report case = codes "PLAN 1\nCASE 1\n" ++ choice_text case (chosen case)
+report case = codes "PLAN 1\nCASE 1\n" ++ choice_text (with_cost (cost case) (chosen case))
 
 -- ---- one line
 
@@ -65,15 +66,19 @@ pub record Outcome : Type 0 where
 abbrev pub onward : List ℕ → Outcome → Outcome
 onward said outcome = record outcome { text = said ++ outcome.text }
 
-abbrev pub keys_text : State → List ℕ
-keys_text s = codes "KEYS " ++ decimal s.keys ++ codes "\n"
-
-abbrev pub ended : State → Outcome
-ended s = record { text = keys_text s; ending = endings.Done }
+-- how many keys were demanded
+abbrev pub keys_line : ℕ → List ℕ
+keys_line keys = codes "KEYS " ++ decimal keys ++ codes "\n"
 
 -- line n is missing, or is not the line of its number
+abbrev pub malformed_text : ℕ → ℕ → List ℕ
+malformed_text n keys = codes "MALFORMED " ++ decimal n ++ codes " UNBUILT 1\n" ++ keys_line keys
+
+abbrev pub ended : State → Outcome
+ended s = record { text = keys_line s.keys; ending = endings.Done }
+
 abbrev pub malformed : State → ℕ → Outcome
-malformed s n = record { text = codes "MALFORMED " ++ decimal n ++ codes " UNBUILT 1\n" ++ keys_text s; ending = endings.Malformed }
+malformed s n = record { text = malformed_text n s.keys; ending = endings.Malformed }
 
 -- the rest where a line was taken, and else the fault
 abbrev pub behind : Option Taking → (Taking → Outcome) → Outcome → Outcome

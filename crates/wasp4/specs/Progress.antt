@@ -39,10 +39,10 @@ pub record TakesPart (before now : Option (List ℕ)) (said : List ℕ) : Type 0
   pub silent : said ≡ []
 
 -- what one turn did: a part of a line where the source failed
-abbrev pub TurnFrom : Option (List ℕ) → Option (List ℕ) → State → ℕ → State → List ℕ → Turn → Type 0
-TurnFrom before now s n t said turns.Failed = TakesPart before now said
-TurnFrom before now s n t said turns.Goes = TakesLine before now s n t said
-TurnFrom before now s n t said (turns.Over ending) = EndsWith before s n said ending
+abbrev pub TurnFrom : Option (List ℕ) → Option (List ℕ) → State → ℕ → State → List ℕ → Option Turn → Type 0
+TurnFrom before now s n t said None = TakesPart before now said
+TurnFrom before now s n t said (Some turns.Goes) = TakesLine before now s n t said
+TurnFrom before now s n t said (Some (turns.Over ending)) = EndsWith before s n said ending
 
 -- some lines were taken and answered
 pub record Advances (before now written written' : Option (List ℕ)) (s : State) (n : ℕ) (t : State) (m : ℕ) : Type 0 where

@@ -4,6 +4,8 @@
 mod case;
 mod choose;
 mod costs;
+mod report;
+mod script;
 mod simulate;
 mod status;
 

@@ -9,15 +9,11 @@ pub enum Ending {
     Malformed,
 }
 
-/// What comes after a line was looked for.
+/// Whether more of the script is to come behind a line.
 #[derive(Clone, Copy, Debug, PartialEq, Eq)]
 pub(crate) enum Turn {
-    /// The line was taken, and the script goes on.
     Goes,
-    /// The script is over.
     Over(Ending),
-    /// The source failed.
-    Failed,
 }
 
 /// How a run ends. The exit statuses of the program are 0 to 6, in this order.
