@@ -4,9 +4,11 @@
 mod case;
 mod choose;
 mod costs;
+mod putting;
 mod report;
 mod script;
 mod simulate;
 mod status;
+mod turn;
 
 fn main(rt: HostRuntime) {}
