@@ -1,0 +1,7 @@
+use crate::{CommandWords, Status, run};
+use std::test::Fail;
+
+#[test]
+fn no_words_are_refused(rt: HostRuntime) -> Result<(), Fail> {
+    Ok(())
+}
