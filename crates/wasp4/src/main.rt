@@ -22,15 +22,14 @@ mod words;
 
 pub use choose::least_cost_is_least;
 pub use status::{Ending, Status};
-pub use top::run;
-pub use words::CommandWords;
-
 use std::alloc::Global;
 use std::process::ExitCode;
 use std::rt::Env;
 use std::{env, io};
+pub use top::run;
 use wasp_fixed::OutOfMemory;
 use wasp_io::{StdSink, StdSource};
+pub use words::CommandWords;
 
 #[cfg(test)]
 mod tests;
