@@ -3,7 +3,7 @@ ghost use Rattle.plant_data.specs.declared.shape.Point.{Point};
 ghost use Rattle.plant_data.specs.declared.shape.Load.{Load};
 
 use crate::{Book, YearSystem};
-use plant_data::{Config, Group, Listed, Load, Plant, Point, Rule, Shape, Water};
+use plant_data::{Config, Group, Listed, Load, Plant, Point, Rule, Shape, Unit, Water};
 use std::alloc::{AllocError, Global};
 use std::test::Fail;
 
@@ -19,6 +19,21 @@ const GAS: Plant = Plant {
     foreign: 0,
     variable: 0,
     outage: 1000,
+    repair: 0,
+};
+
+/// What stands in a room before units are written.
+const NO_UNIT: Unit = Unit {
+    plant: 0,
+    unit: 0,
+    least: 0,
+    full: 0,
+    heat: 0,
+    inc: 0,
+    domestic: 0,
+    foreign: 0,
+    variable: 0,
+    outage: 0,
     repair: 0,
 };
 
@@ -224,5 +239,22 @@ fn a_hydro_group_has_its_base_and_peak_under_the_first_condition(
     assert_eq!(rt; (system.cells(), system.unit_limit()), (12_900, 128));
     config.set(0, 12);
     assert!(rt; !system.fits(&config));
+    Ok(())
+}
+
+#[test]
+fn a_configuration_has_units_of_candidates_by_number(rt: HostRuntime) -> Result<(), Fail> {
+    let system = wide_year(rt.alloc())?;
+    let mut config = Config::zero(system.width());
+    assert!(rt; system.width() == 14);
+    config.set(0, 1);
+    config.set(11, 2);
+    assert!(rt; system.fits(&config) && system.unit_limit() <= 128);
+    let mut room = [NO_UNIT; 128];
+    let count = system.write_units(&config, &mut room);
+    assert_eq!(rt; (count, system.hours(), system.step()), (3, 8760, 1));
+    for (k, name) in [(0, (41, 1)), (1, (52, 1)), (2, (52, 2))] {
+        assert_eq!(rt; (room[k].plant, room[k].unit), name);
+    }
     Ok(())
 }
