@@ -1,5 +1,5 @@
 //! The distinct systems of a run, by number, and the codes of keys.
-ghost use Rattle.std.specs.Prelude.{◌≡◌, ℕ, ◌+◌, ◌^◌, ◌<◌, ◌≤◌, ◌++◌, ◌↔◌, [], ◌∷◌, length, IfOk, OnOk, OnErr, Contains, slice_get, Some, IfSome, IsTrue};
+ghost use Rattle.std.specs.Prelude.{◌≡◌, ℕ, ◌+◌, ◌^◌, ◌<◌, ◌≤◌, ◌++◌, ◌↔◌, [], ◌∷◌, length, IfOk, OnErr, slice_get, Some, IfSome, IsTrue};
 ghost use Rattle.year_system.specs.Code.{IsCode, code_of};
 ghost use Rattle.year_system.specs.System.{Fits, IsSystem};
 
@@ -71,8 +71,8 @@ impl Book {
 
         // No other number has this system, so equal systems have one number and unequal ones two.
         ensures number { IfOk result (λ id. (k : ℕ) → (slice_get self.new k ≡ Some system) ↔ (k ≡ id)) }
-        ensures kept { OnOk result (Contains self.old system → self.new ≡ self.old) }
-        ensures added { OnOk result ((Contains self.old system → ⊥) → self.new ≡ self.old ++ system ∷ []) }
+        ensures found { IfOk result (λ id. id < length self.old → self.new ≡ self.old) }
+        ensures added { IfOk result (λ id. length self.old ≤ id → self.new ≡ self.old ++ system ∷ []) }
         ensures err { OnErr result (self.new ≡ self.old) }
     {
         let _step = system.step();
@@ -106,7 +106,9 @@ impl Book {
     /// The key of a code: the system's number and the configuration that `code` was given.
     pub fn decode(&self, code: u64) -> (u64, Config)
         requires { IsCode self.now code }
-        ensures { (c : IsCode self.now code) → (result.0 ≡ c.id) × (result.1 ≡ c.counts) }
+        ensures key { (c : IsCode self.now code) → (result.0 ≡ c.id) × (result.1 ≡ c.counts) }
+        ensures within { result.0 < length self.now }
+        ensures fits { IfSome (slice_get self.now result.0) (λ s. Fits s result.1) }
     {
         let _systems = &self.systems;
         let id = (code - 1) / CONFIGS;

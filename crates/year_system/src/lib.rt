@@ -16,6 +16,8 @@ mod book;
 mod codes;
 mod limits;
 mod system;
+#[cfg(test)]
+mod tests;
 mod water;
 
 pub use book::Book;
