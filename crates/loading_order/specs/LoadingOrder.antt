@@ -84,3 +84,8 @@ OnlyOrder = (rule : Rule) (units : List Machine) (blocks : List Block) → HasDi
 abbrev pub PeaksFollow : List Block → Type 0
 PeaksFollow blocks = (i j : ℕ) (b p : Block) → slice_get blocks i ≡ Some b → slice_get blocks j ≡ Some p →
     b.unit ≡ p.unit → b.kind ≡ Base → p.kind ≡ Peak → (i < j) × (b.cost ≤ p.cost)
+
+-- each base block stands before each peak block
+abbrev pub BasesFirst : List Block → Type 0
+BasesFirst blocks = (i j : ℕ) (b p : Block) → slice_get blocks i ≡ Some b → slice_get blocks j ≡ Some p →
+    b.kind ≡ Base → p.kind ≡ Peak → i < j

@@ -3,7 +3,7 @@ ghost use Rattle.std.specs.Prelude.{◌≡◌, ℕ, ◌+◌, ◌*◌, ◌<◌, �
 ghost use Rattle.std.specs.Ordering.{nat_cmp};
 ghost use Rattle.std.specs.Cmp.Lexicographic.{slice_cmp};
 ghost use Rattle.plant_data.specs.Units.{HasDistinctUnits};
-ghost use Rattle.loading_order.specs.LoadingOrder.{blocks_of, key, order_of, unit_blocks, IsPriced, OnlyOrder, PeaksFollow};
+ghost use Rattle.loading_order.specs.LoadingOrder.{blocks_of, key, order_of, unit_blocks, BasesFirst, IsPriced, OnlyOrder, PeaksFollow};
 
 use plant_data::{Rule, Unit};
 
@@ -95,6 +95,7 @@ fn write_blocks(units: &[Unit], room: &mut [Block]) -> usize
     requires fits { 2 * length units.now ≤ length room.old }
     ensures value { take result room.new ≡ blocks_of units.now }
     ensures end { result ≡ length (blocks_of units.now) }
+    ensures few { result ≤ 2 * length units.now }
     ensures rest { drop result room.new ≡ drop result room.old }
 {
     let mut end = 0;
@@ -112,16 +113,22 @@ fn write_blocks(units: &[Unit], room: &mut [Block]) -> usize
 /// stand by cost, and after them all peak blocks. Blocks of equal cost stand by plant and unit number,
 /// base before peak. What stands behind the blocks in `room` is left as it was.
 ///
-/// Costs are those of fuel and of variable operation, as in the IAEA's Computer Manual Series No. 16.
+/// A block costs its fuel and variable operation, as in the IAEA's Computer Manual Series No. 16:
+/// `heat * (domestic + foreign) + 1000 * variable` thousandths of a cent per MWh for a base block, with
+/// `inc` in place of `heat` for a peak block, or what the base block costs where that is greater.
+/// `room` has two places per unit, and no two units share plant and unit number.
 pub fn order(units: &[Unit], rule: Rule, room: &mut [Block]) -> usize
     requires priced { All IsPriced units.now }
     requires distinct { HasDistinctUnits units.now }
     requires fits { 2 * length units.now ≤ length room.old }
     ensures value { take result room.new ≡ order_of rule units.now }
     ensures end { result ≡ length (blocks_of units.now) }
+    ensures few { result ≤ 2 * length units.now }
+    ensures places { All (λ b. b.unit < length units.now) (take result room.new) }
     ensures permutation { IsPermutation (blocks_of units.now) (take result room.new) }
     ensures sorted { IsSortedByKey (key rule units.now) (slice_cmp nat_cmp) (take result room.new) }
     ensures peaks { PeaksFollow (take result room.new) }
+    ensures bases { rule ≡ Rule.BaseFirst → BasesFirst (take result room.new) }
     ensures rest { drop result room.new ≡ drop result room.old }
 {
     let end = write_blocks(units, room);

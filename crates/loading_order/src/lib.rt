@@ -1,8 +1,8 @@
 //! The order in which the blocks of units are loaded, and the maintenance of units over a year.
 //!
-//! These are the first two steps of MERSIM, the merit order and simulation module of WASP-IV. The
-//! layer above calls [`order`], whose answer is the list of all blocks sorted by the keys of the
-//! rule, and [`maintenance`], whose answer is each unit's availability in each period.
+//! These are the first two steps of MERSIM, the merge and simulate module of WASP-IV. The layer above
+//! calls [`order`], which answers the list of all blocks sorted by the keys of the rule, and
+//! [`maintenance`], which answers each unit's availability in each period.
 //!
 //! It stands on `plant_data` for units and the rule, and on `wasp_fixed` for the number `M`.
 //! The blocks, the two rules and the placing by falling capacity are those of the IAEA's Computer

@@ -82,8 +82,8 @@ fn write_row(unit: &Unit, place: usize, hours: u64, periods: &mut [Period], room
 /// Writes the availability of each unit in each period, in parts of `M`: that of the unit at place
 /// `u` in period `m` goes to place `u * peaks.len() + m` of `room`.
 ///
-/// `capacities` and `peaks` are the installed capacity and the peak of each period in MW, and
-/// `hours` is the length of a period. The free energy of a period is
+/// `capacities` and `peaks` are the installed capacity and the peak of each of 1 to 12 periods, below
+/// 2^40 MW, and `hours` is the length of a period, at most 8,760. The free energy of a period is
 /// `(capacity - peak) * hours`, which may be below 0. Units take their turns by falling full
 /// capacity, then by plant and unit number. A unit's repair hours go to the period with the most free
 /// energy in which it has none yet, the earliest on a tie, as many as the period has; full capacity
