@@ -10,7 +10,7 @@ use Rattle.std.specs.List.{range_with_len, zip, list_all, position_or_len}
 use Rattle.plant_data.specs.declared.plant.Unit.{Unit as Machine}
 use Rattle.wasp_fixed.specs.declared.numbers.TheConstants.{M}
 use Rattle.loading_order.specs.declared.periods.Period.{Period}
-use Rattle.loading_order.specs.declared.periods.TheConstants.{MOST_FULL}
+use Rattle.loading_order.specs.declared.periods.TheConstants.{MAX_FULL}
 use Rattle.plant_data.specs.Units.{no_unit}
 use Rattle.loading_order.specs.LoadingOrder.{in_order}
 use Rattle.std.specs.Cmp.Lexicographic.{slice_cmp}
@@ -18,7 +18,7 @@ use Rattle.std.specs.Ordering.{nat_cmp, is_lt}
 
 -- the ranges of what a unit's maintenance is made of
 pub record IsMaintained (u : Machine) : Type 0 where
-  pub full : u.full ≤ MOST_FULL
+  pub full : u.full ≤ MAX_FULL
   pub outage : u.outage ≤ M
   pub repair : u.repair ≤ 8760
 
@@ -67,7 +67,7 @@ open_again periods = map (λ p. record { supply = p.supply; need = p.need; hours
 
 -- units take their turns by falling full capacity, then by plant and unit number
 abbrev pub turn_key : Machine → List ℕ
-turn_key u = (MOST_FULL - u.full) ∷ u.plant ∷ u.unit ∷ []
+turn_key u = (MAX_FULL - u.full) ∷ u.plant ∷ u.unit ∷ []
 
 -- the units in the order of their turns
 abbrev pub turns : List Machine → List ℕ

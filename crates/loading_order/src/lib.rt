@@ -20,4 +20,5 @@ mod periods;
 mod tests;
 
 pub use blocks::{Block, Kind, order, order_is_unique};
-pub use maintain::{hours_add_up, maintenance};
+pub use maintain::{MAX_PERIODS, hours_add_up, maintenance};
+pub use periods::MAX_FULL;

@@ -7,12 +7,12 @@ ghost use Rattle.std.specs.Cmp.Lexicographic.{slice_cmp};
 ghost use Rattle.plant_data.specs.Units.{no_unit, HasDistinctUnits};
 ghost use Rattle.loading_order.specs.Maintenance.{availability, availability_of, no_period, open_again, turn_key, turns, HoursAddUp, IsMaintained};
 
-use crate::periods::{MOST_FULL, Period, place_unit, start_periods};
+use crate::periods::{MAX_FULL, Period, place_unit, start_periods};
 use plant_data::Unit;
 use wasp_fixed::M;
 
 /// The greatest number of periods in a year.
-const MOST_PERIODS: usize = 12;
+pub const MAX_PERIODS: usize = 12;
 
 /// What is left of a unit that is out for `out` of `hours` hours, in parts of `M`.
 fn availability(outage: u64, out: u64, hours: u64) -> u64
@@ -30,8 +30,8 @@ fn turn_key(units: &[Unit], place: usize) -> [u64; 3]
     ensures { result ≡ turn_key (slice_index_or units.now place no_unit) }
 {
     match units.get(place) {
-        Some(unit) => [MOST_FULL.saturating_sub(unit.full), unit.plant, unit.unit],
-        None => [MOST_FULL, 0, 0],
+        Some(unit) => [MAX_FULL.saturating_sub(unit.full), unit.plant, unit.unit],
+        None => [MAX_FULL, 0, 0],
     }
 }
 
@@ -102,7 +102,7 @@ pub fn maintenance(
     room: &mut [u64],
 )
     requires same { length capacities.now ≡ length peaks.now }
-    requires periods { (1 ≤ length peaks.now) × (length peaks.now ≤ MOST_PERIODS) }
+    requires periods { (1 ≤ length peaks.now) × (length peaks.now ≤ MAX_PERIODS) }
     requires hours { (1 ≤ hours) × (hours ≤ 8760) }
     requires capacities { All (λ c. c < 2 ^ 40) capacities.now }
     requires peaks { All (λ p. p < 2 ^ 40) peaks.now }
@@ -122,7 +122,7 @@ pub fn maintenance(
         supply: 0,
         need: 0,
         hours: 0,
-    }; MOST_PERIODS];
+    }; MAX_PERIODS];
     let periods = &mut all[..n];
     start_periods(capacities, peaks, hours, periods);
     for turn in 0..count {

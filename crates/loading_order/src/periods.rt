@@ -3,7 +3,7 @@ ghost use Rattle.std.specs.Prelude.{◌≡◌, ℕ, ◌+◌, ◌*◌, ◌<◌, �
 ghost use Rattle.loading_order.specs.Maintenance.{is_better, most_free, place_hours, starting};
 
 /// The greatest full capacity of a unit, in MW.
-pub const MOST_FULL: u64 = 20_000;
+pub const MAX_FULL: u64 = 20_000;
 
 /// A period while the maintenance of one unit is placed. Its free energy is the supply less the
 /// need, which may be below 0.
@@ -47,7 +47,7 @@ fn most_free(periods: &[Period]) -> usize
 
 /// Places the repair hours of a unit of `full` MW in periods of `hours` hours each.
 pub fn place_unit(full: u64, repair: u64, hours: u64, periods: &mut [Period])
-    requires full { full ≤ MOST_FULL }
+    requires full { full ≤ MAX_FULL }
     requires repair { repair ≤ 8760 }
     requires hours { 1 ≤ hours }
     requires some { 0 < length periods.old }
