@@ -1,0 +1,2 @@
+pub mod LoadingOrder
+pub mod Maintenance
