@@ -1,6 +1,6 @@
 //! A curve with room for a fixed number of cells.
 ghost use Rattle.std.specs.Prelude.{◌≡◌, ℕ, ◌+◌, ◌-◌, ◌*◌, ◌<◌, ◌≤◌, ◌↔◌, [], ◌∷◌, ◌++◌, List, length, take, drop, IfOk, IsTrue};
-ghost use Rattle.wasp_fixed.specs.Curves.{area, cell};
+ghost use Rattle.wasp_fixed.specs.Curves.{area, cell, IsAtMostOne};
 ghost use Rattle.convolution.specs.EquivalentLoad.{eq_step, Part};
 ghost use Rattle.convolution.specs.ExactLoad.{IsWithin};
 
@@ -66,6 +66,7 @@ impl Curve {
         ensures len { result ≡ length self.now.cells }
         ensures within { result ≤ self.now.room }
         ensures most { result ≤ 65536 }
+        ensures at_most_one { IsAtMostOne (cell self.now.cells) }
     {
         self.used
     }

@@ -1,0 +1,3 @@
+pub mod Levels
+mod Rows
+pub mod Slides

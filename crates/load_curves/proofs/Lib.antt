@@ -1,0 +1,5 @@
+pub mod Ceilings
+pub mod Neighbours
+pub mod ShapePoints
+pub mod FillSteps
+mod Rows
