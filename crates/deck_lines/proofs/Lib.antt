@@ -2,4 +2,5 @@ pub mod Bytewise
 pub mod FieldSteps
 pub mod Ranges
 pub mod InForms
+pub mod LineForms
 mod Rows

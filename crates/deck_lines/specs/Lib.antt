@@ -3,3 +3,4 @@ pub mod LineFault
 pub mod Body
 pub mod Statements
 pub mod FirstPath
+pub mod Grammar

@@ -344,7 +344,7 @@ allows_each (kind ∷ kinds) (n ∷ ns) = allows kind n && allows_each kinds ns
 
 -- from least to most groups of numbers
 abbrev pub are_groups : List Kind → ℕ → ℕ → List ℕ → Bool
-are_groups kinds least zero [] = true
+are_groups kinds least zero [] = least == 0
 are_groups kinds least zero (n ∷ ns) = false
 are_groups kinds least (suc more) [] = least == 0
 are_groups kinds least (suc more) (n ∷ ns) = allows_each kinds (take (length kinds) (n ∷ ns)) && are_groups kinds (least - 1) more (drop (length kinds) (n ∷ ns))

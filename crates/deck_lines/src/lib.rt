@@ -8,6 +8,7 @@
 //! Stands on `wasp_fixed` alone. What is read is in its form, each number in its range.
 #![tactic(auto)]
 
+mod behind;
 mod body;
 mod fault;
 mod fields;
@@ -15,6 +16,8 @@ mod first;
 mod form;
 mod head;
 mod head_word;
+mod line;
+mod line_word;
 mod numbers;
 mod reading;
 mod scan;
@@ -24,4 +27,5 @@ pub use body::Body;
 pub use fault::{LineError, LineFault, LineKind};
 pub use first::read_first;
 pub use head::Head;
+pub use line::{CertLine, Line, MAX_LINE, Mode, read_line};
 pub use statement::Statement;
