@@ -14,7 +14,7 @@ use Rattle.deck_lines.specs.declared.head_word.HeadWord.TheVariants as words
 use Rattle.deck_lines.specs.declared.statement.Statement.{Statement}
 use Rattle.deck_lines.specs.Words.{Piece, number_of}
 use Rattle.deck_lines.specs.LineFault.{◌>>=◌, fault, Gives}
-use Rattle.deck_lines.specs.Statements.{year, case, plant, candidate, group, project, period, fuel, shape, layout_of, head_of, word_of, index_of, allows, allows_each, are_groups, is_named, is_name, is_rule, is_within, number_in, number_at, fields_onto, groups_onto, name_at, statement_of, headed, head_word_of, stated_by, IsStatement}
+use Rattle.deck_lines.specs.Statements.{year, case, plant, candidate, group, project, period, fuel, shape, layout_of, head_of, word_of, index_of, allows, allows_each, are_groups, is_named, is_name, is_rule, is_within, number_in, number_at, fields_onto, groups_onto, name_at, statement_of, headed, head_word_of, stated_by, is_statement, IsStatement}
 use Rattle.deck_lines.proofs.Ranges.{both, allows_each-length}
 
 abbrev pub done : {A : Type 0} → A → Result A LineFault
@@ -224,11 +224,11 @@ filled words.Grid h = omega arith
 
 parts_fit : (word : HeadWord) (index name numbers : List ℕ) → allows_each (layout_of word).index index ≡ true → is_named (layout_of word).naming name ≡ true → are_groups (layout_of word).group (layout_of word).least (layout_of word).most numbers ≡ true
     → IsStatement (record { head = head_of word index; body = record { name = name; numbers = numbers } })
-unfolding IsStatement
+unfolding is_statement
 parts_fit word index name numbers i n g = rw (word_of-head_of word index, index_of-head_of word index i, i, n, g) refl
 
 pub statement_fits : (word : HeadWord) (end : ℕ) (ws : List Piece) (s : Statement) → statement_of word end ws ≡ Ok s → IsStatement s
-unfolding statement_of IsStatement
+unfolding statement_of is_statement
 statement_fits word end ws s e =
     let form = layout_of word in
     let a = bind_ok (fields_onto [] end form.index ws) (λ index. name_at form.naming end index.1 >>= λ name. groups_onto [] end form.group form.least form.most name.1 >>= λ numbers. Ok (record { head = head_of word index.0; body = record { name = name.0; numbers = numbers } })) s e in

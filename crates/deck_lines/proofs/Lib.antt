@@ -3,4 +3,6 @@ pub mod FieldSteps
 pub mod Ranges
 pub mod InForms
 pub mod LineForms
+pub mod EqualHeads
+pub mod Placed
 mod Rows

@@ -4,3 +4,5 @@ pub mod Body
 pub mod Statements
 pub mod FirstPath
 pub mod Grammar
+pub mod Deck
+pub mod Script

@@ -10,6 +10,7 @@
 
 mod behind;
 mod body;
+mod deck;
 mod fault;
 mod fields;
 mod first;
@@ -24,6 +25,7 @@ mod scan;
 mod statement;
 
 pub use body::Body;
+pub use deck::{Deck, decks_follow_scripts};
 pub use fault::{LineError, LineFault, LineKind};
 pub use first::read_first;
 pub use head::Head;
