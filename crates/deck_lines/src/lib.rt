@@ -23,6 +23,8 @@ mod numbers;
 mod reading;
 mod scan;
 mod statement;
+#[cfg(test)]
+mod tests;
 
 pub use body::Body;
 pub use deck::{Deck, decks_follow_scripts};
