@@ -1,6 +1,7 @@
 -- What is read is in its form.
 use Rattle.std.proofs.Common.{◌≡◌, ℕ, zero, suc, ◌-◌, ◌<◌, ◌≤◌, Bool, true, false, cond, eqb, ◌&&◌, List, [], ◌∷◌, ◌++◌, length, take, drop, slice_index, Option, None, Some, Result, Ok, Err, refl, sym, ap, subst, ◌∙◌, append_assoc, arith, IfOk}
 use Rattle.std.proofs.lemmas.List.{append-nil}
+use Rattle.std.proofs.lemmas.Bool.{eq-eqb}
 use Rattle.std.proofs.Math.Seq.{take-append_seam, drop-append_seam}
 use Rattle.deck_lines.specs.declared.fault.LineFault.{LineFault}
 use Rattle.deck_lines.specs.declared.fault.LineError.{LineError}
@@ -13,13 +14,13 @@ use Rattle.deck_lines.specs.declared.head_word.HeadWord.TheVariants as words
 use Rattle.deck_lines.specs.declared.statement.Statement.{Statement}
 use Rattle.deck_lines.specs.Words.{Piece, number_of}
 use Rattle.deck_lines.specs.LineFault.{◌>>=◌, fault, Gives}
-use Rattle.deck_lines.specs.Statements.{year, case, plant, candidate, group, project, period, fuel, shape, layout_of, head_of, word_of, index_of, allows, allows_each, are_groups, is_named, is_name, is_rule, is_within, number_in, number_at, fields_onto, groups_onto, name_at, statement_of, headed, head_word_of, stated_by, IsStatement}
+use Rattle.deck_lines.specs.Statements.{year, case, plant, candidate, group, project, period, fuel, shape, layout_of, head_of, word_of, index_of, allows, allows_each, are_groups, is_named, is_name, is_rule, is_within, number_in, number_at, fields_onto, groups_onto, name_at, statement_of, headed, head_word_of, stated_by, is_statement, IsStatement}
 use Rattle.deck_lines.proofs.Ranges.{both, allows_each-length}
 
-abbrev done : {A : Type 0} → A → Result A LineFault
+abbrev pub done : {A : Type 0} → A → Result A LineFault
 done x = Ok x
 
-ok_is : {A : Type 0} (x y : A) → done x ≡ done y → x ≡ y
+pub ok_is : {A : Type 0} (x y : A) → done x ≡ done y → x ≡ y
 ok_is x y e = cc
 
 -- the value of a step that did not fail
@@ -31,7 +32,7 @@ pub guard_ok : {A : Type 0} (b : Bool) (d : LineFault) (x y : A) → cond b (Ok 
 guard_ok true d x y e = (refl, cc)
 guard_ok false d x y e = absurd cc
 
-number_fits : (kind : Kind) (column : ℕ) (o : Option ℕ) (n : ℕ) → number_in kind column o ≡ Ok n → allows kind n ≡ true
+pub number_fits : (kind : Kind) (column : ℕ) (o : Option ℕ) (n : ℕ) → number_in kind column o ≡ Ok n → allows kind n ≡ true
 number_fits kind column None n e = absurd cc
 number_fits kind column (Some m) n e =
     let g = guard_ok (allows kind m) (fault faults.Range column) m n e in
@@ -73,17 +74,17 @@ one_more ks least more before mid after one some e fits rest = record {
   are = split_groups ks least more one rest.gained (omega (arith, some, allows_each-length ks one fits)) (allows_each-length ks one fits) fits rest.are;
 }
 
-pub groups_fit : (before : List ℕ) (end : ℕ) (ks : List Kind) (least most : ℕ) (ws : List Piece) (after : List ℕ) → (0 < most → 0 < length ks) → groups_onto before end ks least most ws ≡ Ok after → GainsGroups ks least most before after
+pub groups_fit : (before : List ℕ) (end : ℕ) (ks : List Kind) (least most : ℕ) (ws : List Piece) (after : List ℕ) → least ≤ most → (0 < most → 0 < length ks) → groups_onto before end ks least most ws ≡ Ok after → GainsGroups ks least most before after
 unfolding groups_onto
-groups_fit before end ks least zero [] after some e = no_groups ks least zero before after refl e
-groups_fit before end ks least zero (w ∷ ws) after some e = absurd cc
-groups_fit before end ks least (suc more) [] after some e =
+groups_fit before end ks least zero [] after le some e = no_groups ks least zero before after (eq-eqb least 0 (omega arith)) e
+groups_fit before end ks least zero (w ∷ ws) after le some e = absurd cc
+groups_fit before end ks least (suc more) [] after le some e =
     let g = guard_ok (eqb least 0) (fault faults.Count end) before after e in
     no_groups ks least (suc more) before after g.0 (ap done g.1)
-groups_fit before end ks least (suc more) (w ∷ ws) after some e =
+groups_fit before end ks least (suc more) (w ∷ ws) after le some e =
     let b = bind_ok (fields_onto before end ks (w ∷ ws)) (λ one. groups_onto one.0 end ks (least - 1) more one.1) after e in
     let f = fields_fit before end ks (w ∷ ws) b.0.0 b.0.1 b.1 in
-    one_more ks least more before b.0.0 after f.0 (some (omega arith)) f.1 f.2 (groups_fit b.0.0 end ks (least - 1) more b.0.1 after (λ lt. some (omega arith)) b.2)
+    one_more ks least more before b.0.0 after f.0 (some (omega arith)) f.1 f.2 (groups_fit b.0.0 end ks (least - 1) more b.0.1 after (omega arith) (λ lt. some (omega arith)) b.2)
 
 name_fits : (kind : Naming) (end : ℕ) (ws : List Piece) (name : List ℕ) (rest : List Piece) → name_at kind end ws ≡ Ok (name, rest) → is_named kind name ≡ true
 unfolding name_at
@@ -169,6 +170,32 @@ word_of-head_of words.EnsMore index = refl
 word_of-head_of words.Escalate index = refl
 word_of-head_of words.Grid index = refl
 
+ordered : (word : HeadWord) → (layout_of word).least ≤ (layout_of word).most
+ordered words.Years = omega arith
+ordered words.Periods = omega arith
+ordered words.Rate = omega arith
+ordered words.Ens = omega arith
+ordered words.Rule = omega arith
+ordered words.Cases = omega arith
+ordered words.Conditions = omega arith
+ordered words.Shape = omega arith
+ordered words.Fuel = omega arith
+ordered words.Load = omega arith
+ordered words.Plant = omega arith
+ordered words.Add = omega arith
+ordered words.Retire = omega arith
+ordered words.Thermal = omega arith
+ordered words.Hydro = omega arith
+ordered words.Project = omega arith
+ordered words.Water = omega arith
+ordered words.Tunnel = omega arith
+ordered words.Margin = omega arith
+ordered words.Lolp = omega arith
+ordered words.Version = omega arith
+ordered words.EnsMore = omega arith
+ordered words.Escalate = omega arith
+ordered words.Grid = omega arith
+
 filled : (word : HeadWord) → 0 < (layout_of word).most → 0 < length (layout_of word).group
 filled words.Years h = omega arith
 filled words.Periods h = omega arith
@@ -197,11 +224,11 @@ filled words.Grid h = omega arith
 
 parts_fit : (word : HeadWord) (index name numbers : List ℕ) → allows_each (layout_of word).index index ≡ true → is_named (layout_of word).naming name ≡ true → are_groups (layout_of word).group (layout_of word).least (layout_of word).most numbers ≡ true
     → IsStatement (record { head = head_of word index; body = record { name = name; numbers = numbers } })
-unfolding IsStatement
+unfolding is_statement
 parts_fit word index name numbers i n g = rw (word_of-head_of word index, index_of-head_of word index i, i, n, g) refl
 
 pub statement_fits : (word : HeadWord) (end : ℕ) (ws : List Piece) (s : Statement) → statement_of word end ws ≡ Ok s → IsStatement s
-unfolding statement_of IsStatement
+unfolding statement_of is_statement
 statement_fits word end ws s e =
     let form = layout_of word in
     let a = bind_ok (fields_onto [] end form.index ws) (λ index. name_at form.naming end index.1 >>= λ name. groups_onto [] end form.group form.least form.most name.1 >>= λ numbers. Ok (record { head = head_of word index.0; body = record { name = name.0; numbers = numbers } })) s e in
@@ -209,20 +236,16 @@ statement_fits word end ws s e =
     let c = bind_ok (groups_onto [] end form.group form.least form.most b.0.1) (λ numbers. Ok (record { head = head_of word a.0.0; body = record { name = b.0.0; numbers = numbers } })) s b.2 in
     let made : Statement = record { head = head_of word a.0.0; body = record { name = b.0.0; numbers = c.0 } } in
     let f = fields_fit [] end form.index ws a.0.0 a.0.1 a.1 in
-    let g = groups_fit [] end form.group form.least form.most b.0.1 c.0 (filled word) c.1 in
+    let g = groups_fit [] end form.group form.least form.most b.0.1 c.0 (ordered word) (filled word) c.1 in
     subst IsStatement (ok_is made s c.2) (parts_fit word a.0.0 b.0.0 c.0
     (subst (λ (t : List ℕ). allows_each form.index t ≡ true) (sym f.1) f.2)
     (name_fits form.naming end a.0.1 b.0.0 b.0.1 b.1)
     (subst (λ (t : List ℕ). are_groups form.group form.least form.most t ≡ true) (sym g.behind) g.are))
 
-headed_fits : (word : Option HeadWord) (column end : ℕ) (ws : List Piece) (s : Statement) → headed word column end ws ≡ Ok s → IsStatement s
+pub headed_fits : (word : Option HeadWord) (column end : ℕ) (ws : List Piece) (s : Statement) → headed word column end ws ≡ Ok s → IsStatement s
 headed_fits None column end ws s e = absurd cc
 headed_fits (Some word) column end ws s e = statement_fits word end ws s e
 
-pub stated_fits : (end : ℕ) (ws : List Piece) (s : Statement) → stated_by end ws ≡ Ok s → IsStatement s
-stated_fits end [] s e = absurd cc
-stated_fits end (w ∷ ws) s e = headed_fits (head_word_of w.text) w.column end ws s e
-
-pub stated_gives : (word : HeadWord) (end : ℕ) (ws : List Piece) (r : Result Statement LineError) → Gives (λ s. s) r (statement_of word end ws) → IfOk r (λ s. IsStatement s)
-stated_gives word end ws (Ok s) e = statement_fits word end ws s e
-stated_gives word end ws (Err e) h = tt
+pub headed_gives : (word : Option HeadWord) (column end : ℕ) (ws : List Piece) (r : Result Statement LineError) → Gives (λ s. s) r (headed word column end ws) → IfOk r (λ s. IsStatement s)
+headed_gives word column end ws (Ok s) e = headed_fits word column end ws s e
+headed_gives word column end ws (Err e) h = tt

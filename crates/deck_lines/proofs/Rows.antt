@@ -1,12 +1,18 @@
 -- Worked rows of the definitions.
-use Rattle.std.proofs.Common.{◌≡◌, List, [], ◌∷◌, Some, None, Ok, Err, refl}
+use Rattle.std.proofs.Common.{◌≡◌, ℕ, List, [], ◌∷◌, Some, None, Ok, Err, refl}
 use Rattle.std.specs.Prelude.{codes}
 use Rattle.deck_lines.specs.declared.fault.LineKind.TheVariants as faults
 use Rattle.deck_lines.specs.declared.head.Head.TheVariants as heads
+use Rattle.deck_lines.specs.declared.line.Line.{Line}
+use Rattle.deck_lines.specs.declared.line.Line.TheVariants as lines
+use Rattle.deck_lines.specs.declared.line.CertLine.TheVariants as certs
+use Rattle.deck_lines.specs.declared.line.Mode.TheVariants as modes
 use Rattle.deck_lines.specs.Words.{words_of, number_of}
 use Rattle.deck_lines.specs.LineFault.{fault}
 use Rattle.deck_lines.specs.Statements.{stated_by, statement_of, fields_onto, groups_onto, name_at}
 use Rattle.deck_lines.specs.FirstPath.{first_line}
+use Rattle.deck_lines.specs.Grammar.{line_of, counts_onto}
+use Rattle.deck_lines.specs.Deck.{deck_at}
 
 -- words stand where their first byte stands, from 1
 columns : words_of (codes " ADD  3") ≡ record { column = 2; text = codes "ADD" } ∷ record { column = 7; text = codes "3" } ∷ []
@@ -41,3 +47,38 @@ first_has_one_space = refl
 first_has_one_fuel : first_line 6 (codes "FUEL 2 5 5") ≡ None
 unfolding statement_of fields_onto groups_onto name_at
 first_has_one_fuel = refl
+
+-- ---- the deck
+
+ens_at : ℕ → Line
+ens_at n = lines.Set (record { head = heads.Ens; body = record { name = []; numbers = n ∷ [] } })
+
+later_statement_counts : deck_at (ens_at 1 ∷ ens_at 2 ∷ lines.Plan ∷ []) heads.Ens ≡ Some (record { name = []; numbers = 2 ∷ [] })
+unfolding ens_at
+later_statement_counts = refl
+
+drop_takes_away : deck_at (ens_at 1 ∷ lines.Drop heads.Ens ∷ lines.Plan ∷ []) heads.Ens ≡ None
+unfolding ens_at
+drop_takes_away = refl
+
+set_again : deck_at (lines.Drop heads.Ens ∷ ens_at 3 ∷ lines.Drop heads.Years ∷ []) heads.Ens ≡ Some (record { name = []; numbers = 3 ∷ [] })
+unfolding ens_at
+set_again = refl
+
+-- ---- lines
+
+short_come : line_of modes.Certificate (codes "COME 1 200") ≡ Err (fault faults.Count 11)
+unfolding line_of counts_onto
+short_come = refl
+
+come_with_none : line_of modes.Certificate (codes "COME 3 0 128 NONE") ≡ Ok (lines.Cert (certs.Come 3 (0 ∷ 128 ∷ []) None))
+unfolding line_of counts_onto
+come_with_none = refl
+
+two_returns : line_of modes.Plan (13 ∷ 13 ∷ []) ≡ Err (fault faults.Byte 1)
+unfolding line_of
+two_returns = refl
+
+plan_in_check : line_of modes.Check (codes " PLAN") ≡ Err (fault faults.Word 2)
+unfolding line_of
+plan_in_check = refl

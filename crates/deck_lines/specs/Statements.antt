@@ -344,7 +344,7 @@ allows_each (kind ∷ kinds) (n ∷ ns) = allows kind n && allows_each kinds ns
 
 -- from least to most groups of numbers
 abbrev pub are_groups : List Kind → ℕ → ℕ → List ℕ → Bool
-are_groups kinds least zero [] = true
+are_groups kinds least zero [] = least == 0
 are_groups kinds least zero (n ∷ ns) = false
 are_groups kinds least (suc more) [] = least == 0
 are_groups kinds least (suc more) (n ∷ ns) = allows_each kinds (take (length kinds) (n ∷ ns)) && are_groups kinds (least - 1) more (drop (length kinds) (n ∷ ns))
@@ -358,5 +358,8 @@ abbrev pub is_within : Layout → Statement → Bool
 is_within layout s = allows_each layout.index (index_of s.head) && is_named layout.naming s.body.name && are_groups layout.group layout.least layout.most s.body.numbers
 
 -- the statement has the index numbers, the name and the numbers of its head, each in its range
-unfoldable pub IsStatement : Statement → Type 0
-IsStatement s = IsTrue (is_within (layout_of (word_of s.head)) s)
+unfoldable pub is_statement : Statement → Bool
+is_statement s = is_within (layout_of (word_of s.head)) s
+
+abbrev pub IsStatement : Statement → Type 0
+IsStatement s = IsTrue (is_statement s)

@@ -33,9 +33,9 @@ pub struct Form {
     pub most: usize,
 }
 
-const YEAR: Kind = Kind::Number(1, 30);
+pub(crate) const YEAR: Kind = Kind::Number(1, 30);
 
-const CASE: Kind = Kind::Number(1, 8);
+pub(crate) const CASE: Kind = Kind::Number(1, 8);
 
 const PLANT: Kind = Kind::Number(1, 40);
 
@@ -52,7 +52,7 @@ const FUEL: Kind = Kind::Number(1, 20);
 const SHAPE: Kind = Kind::Number(1, 100);
 
 /// Units of a plant, and counts of candidates.
-const UNITS: Kind = Kind::Number(0, 128);
+pub(crate) const UNITS: Kind = Kind::Number(0, 128);
 /// Megawatts of a block of a unit.
 const BLOCK: Kind = Kind::Number(1, 20_000);
 /// Kilocalories per kWh, cents per million kcal, dollars per kW.
@@ -87,7 +87,12 @@ impl Kind {
 }
 
 impl Form {
-    fn repeated(index: &'static [Kind], group: &'static [Kind], least: usize, most: usize) -> Form
+    pub(crate) fn repeated(
+        index: &'static [Kind],
+        group: &'static [Kind],
+        least: usize,
+        most: usize,
+    ) -> Form
         ensures { spec.laid_out result ≡ spec.repeated index.now group.now least most }
     {
         Form {

@@ -8,20 +8,28 @@
 //! Stands on `wasp_fixed` alone. What is read is in its form, each number in its range.
 #![tactic(auto)]
 
+mod behind;
 mod body;
+mod deck;
 mod fault;
 mod fields;
 mod first;
 mod form;
 mod head;
 mod head_word;
+mod line;
+mod line_word;
 mod numbers;
 mod reading;
 mod scan;
 mod statement;
+#[cfg(test)]
+mod tests;
 
 pub use body::Body;
+pub use deck::{Deck, decks_follow_scripts};
 pub use fault::{LineError, LineFault, LineKind};
 pub use first::read_first;
 pub use head::Head;
+pub use line::{CertLine, Line, MAX_LINE, Mode, read_line};
 pub use statement::Statement;

@@ -2,7 +2,7 @@
 ghost use Rattle.std.specs.Prelude.{◌≡◌, IfOk};
 ghost use Rattle.deck_lines.specs.LineFault.{Gives};
 ghost use Rattle.deck_lines.specs.Statements as spec;
-ghost use Rattle.deck_lines.specs.Statements.{IsStatement};
+ghost use Rattle.deck_lines.specs.Statements.{IsStatement, head_word_of};
 
 use crate::body::Body;
 use crate::fault::{LineError, LineKind};
@@ -10,7 +10,7 @@ use crate::fields::{fields, groups, name};
 use crate::form::Form;
 use crate::head::headed_by;
 use crate::head_word::HeadWord;
-use crate::scan::Words;
+use crate::scan::{Word, Words};
 use crate::statement::Statement;
 use std::alloc::Global;
 
@@ -36,7 +36,22 @@ fn statement(
     })
 }
 
-/// What the words of a line of the deck state.
+/// The statement that begins with a word.
+pub(crate) fn headed(
+    alloc: Global,
+    first: Word,
+    end: usize,
+    words: &mut Words,
+) -> Result<Statement, LineError>
+    ensures { Gives (λ s. s) result (spec.headed (head_word_of first.entry.text.now) first.entry.column end words.old) }
+{
+    match HeadWord::from_text(first.text) {
+        None => Err(LineError::at(LineKind::Word, first.column)),
+        Some(word) => statement(alloc, word, end, words),
+    }
+}
+
+/// What the words of a line state.
 pub(crate) fn stated_by(
     alloc: Global,
     end: usize,
@@ -45,11 +60,8 @@ pub(crate) fn stated_by(
     ensures exact { Gives (λ s. s) result (spec.stated_by end words.old) }
     ensures in_form { IfOk result (λ s. IsStatement s) }
 {
-    let Some(first) = words.next() else {
-        return Err(LineError::at(LineKind::Word, 1));
-    };
-    match HeadWord::from_text(first.text) {
-        None => Err(LineError::at(LineKind::Word, first.column)),
-        Some(word) => statement(alloc, word, end, words),
+    match words.next() {
+        None => Err(LineError::at(LineKind::Word, 1)),
+        Some(first) => headed(alloc, first, end, words),
     }
 }

@@ -1,5 +1,5 @@
-use Rattle.deck_lines.proofs.InForms.{stated_gives}
+use Rattle.deck_lines.proofs.InForms.{headed_gives}
 use Rattle.deck_lines.proofs.reading.stated_by.Goals as goal
 
-pub returns-in-Some-from_text-clause-in_form : goal.returns-in-Some-from_text-clause-in_form
-returns-in-Some-from_text-clause-in_form c = stated_gives _ _ _ _ c.statement.ensures
+pub returns-in-Some-clause-in_form : goal.returns-in-Some-clause-in_form
+returns-in-Some-clause-in_form c = headed_gives _ _ _ _ _ c.headed.ensures
