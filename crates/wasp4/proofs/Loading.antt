@@ -1,9 +1,7 @@
 -- One unit more on the curve.
-use Rattle.std.proofs.Common.{◌≡◌, ℕ, zero, suc, ◌+◌, ◌-◌, ◌*◌, ◌/◌, ◌<◌, ◌≤◌, List, [], ◌∷◌, ◌++◌, length, replicate, true, false, cond, ltb, ap, refl, sym, ◌∙◌, arith, inl, inr}
-use Rattle.std.proofs.lemmas.Bool.{cases_lt, lt-ltb, le-ltb}
-use Rattle.std.proofs.Math.Nat.{mul-le-mul_left}
+use Rattle.std.proofs.Common.{◌≡◌, ℕ, zero, suc, ◌+◌, ◌-◌, List, replicate, true, false, cond, ltb, ap, refl, sym, ◌∙◌, arith}
 use Rattle.wasp_fixed.specs.Curves.{before, cell}
-use Rattle.wasp_fixed.specs.declared.numbers.TheConstants.{M, ONE}
+use Rattle.wasp_fixed.specs.declared.numbers.TheConstants.{ONE}
 use Rattle.convolution.specs.EquivalentLoad.{Part, equivalent_load, eq_step}
 use Rattle.wasp4.specs.declared.case.Case.{Case}
 use Rattle.wasp4.specs.Row.{flat_load, load_behind, unit}

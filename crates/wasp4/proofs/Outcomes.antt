@@ -1,10 +1,9 @@
 -- What comes of one line more.
-use Rattle.std.proofs.Common.{◌≡◌, ℕ, ◌+◌, ◌<◌, Bool, true, false, List, [], ◌∷◌, length, Option, None, Some, refl, ap, ◌∙◌, inl, inr, arith}
+use Rattle.std.proofs.Common.{◌≡◌, ℕ, ◌+◌, ◌<◌, true, false, List, [], ◌∷◌, length, None, Some, refl, ap, ◌∙◌, inl, inr, arith}
 use Rattle.std.specs.Prelude.{codes}
-use Rattle.std.specs.Str.{bytes_eq}
 use Rattle.std.proofs.lemmas.Bool.{and_parts, cases_Bool, lt-ltb}
 use Rattle.std.proofs.lemmas.Slice.Eq.{bytes_eq-Decides}
-use Rattle.wasp4.specs.Out.{State, Taking, behind, ended, is_end, malformed, onward, outcome_from, taking}
+use Rattle.wasp4.specs.Out.{State, behind, ended, is_end, malformed, onward, outcome_from, taking}
 
 line_more : (s : State) (n : ℕ) (line : List ℕ) (lines : List (List ℕ)) → is_end n line ≡ false → outcome_from s n (line ∷ lines) ≡ behind (taking s n line) (λ t. onward t.text (outcome_from t.state (n + 1) lines)) (malformed s n)
 unfolding outcome_from

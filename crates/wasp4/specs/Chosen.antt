@@ -1,6 +1,6 @@
 -- Which counts are listed and accepted, and the least-cost one, as CONGEN and DYNPRO have them (IAEA Computer Manual
 -- Series No. 16). That equality passes at every bound, and the least count is taken among equal costs, is this program's own.
-use Rattle.std.specs.Prelude.{◌≡◌, ◌&&◌, ◌+◌, ◌*◌, ◌<◌, ◌≤◌, ℕ, Bool, List, [], ◌∷◌, All, Contains, Option, None, Some, MatchOption, length, nat_le, if◌then◌else◌}
+use Rattle.std.specs.Prelude.{◌≡◌, ◌&&◌, ◌+◌, ◌*◌, ◌≤◌, ℕ, Bool, List, [], ◌∷◌, All, Contains, Option, None, Some, MatchOption, length, nat_le, if◌then◌else◌}
 use Rattle.std.specs.List.{filter, range_with_len}
 use Rattle.std.specs.List.Sorted.{IsStrictlyIncreasing}
 use Rattle.plant_data.specs.declared.row.Row.{Row}

@@ -1,7 +1,7 @@
 -- The row of a configuration, as MERSIM has it (IAEA Computer Manual Series No. 16): each block's energy on the
 -- equivalent load of the units before it, and the loss of load after all of them. Here for one flat period of
 -- 8,760 hours and units of one block and one cost, which are loaded in the order of their numbers.
-use Rattle.std.specs.Prelude.{◌-◌, ◌+◌, ◌*◌, ◌/◌, ℕ, List, map, nat_lt, replicate, sum, if◌then◌else◌}
+use Rattle.std.specs.Prelude.{◌-◌, ◌+◌, ◌*◌, ◌/◌, ℕ, map, nat_lt, replicate, sum, if◌then◌else◌}
 use Rattle.std.specs.List.{range_with_len}
 use Rattle.wasp_fixed.specs.Curves.{area}
 use Rattle.wasp_fixed.specs.declared.numbers.TheConstants.{M, ONE}

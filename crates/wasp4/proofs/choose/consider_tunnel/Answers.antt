@@ -1,5 +1,4 @@
 use Rattle.std.proofs.Common.{◌+◌, arith, refl, ◌∙◌}
-use Rattle.std.specs.List.{range_with_len}
 use Rattle.wasp4.proofs.Choosing.{found_down, found_none}
 use Rattle.wasp4.proofs.choose.consider_tunnel.Goals as goal
 

@@ -1,4 +1,4 @@
-use Rattle.std.proofs.Common.{◌≡◌, ℕ, ◌+◌, ◌-◌, ◌*◌, ◌/◌, ◌∙◌, sym, ap, arith}
+use Rattle.std.proofs.Common.{◌≡◌, ℕ, ◌+◌, ◌-◌, ◌*◌, ◌/◌, ◌∙◌, ap, arith}
 use Rattle.wasp_fixed.specs.declared.numbers.TheConstants.{M, ONE}
 use Rattle.wasp_fixed.specs.Curves.{area, cell}
 use Rattle.wasp_fixed.proofs.Areas.{area-same, sum-more}
