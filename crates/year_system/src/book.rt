@@ -1,5 +1,5 @@
 //! The distinct systems of a run, by number, and the codes of keys.
-ghost use Rattle.std.specs.Prelude.{◌≡◌, ℕ, ◌+◌, ◌^◌, ◌<◌, ◌≤◌, ◌++◌, ◌↔◌, [], ◌∷◌, length, IfOk, OnErr, slice_get, Some, IfSome, IsTrue};
+ghost use Rattle.std.specs.Prelude.{◌≡◌, ℕ, ◌+◌, ◌^◌, ◌<◌, ◌≤◌, ◌++◌, ◌↔◌, [], ◌∷◌, length, Contains, IfOk, OnErr, slice_get, Some, IfSome, IsTrue};
 ghost use Rattle.year_system.specs.Code.{IsCode, code_of};
 ghost use Rattle.year_system.specs.System.{Fits, IsSystem};
 
@@ -74,6 +74,9 @@ impl Book {
         ensures found { IfOk result (λ id. id < length self.old → self.new ≡ self.old) }
         ensures added { IfOk result (λ id. length self.old ≤ id → self.new ≡ self.old ++ system ∷ []) }
         ensures err { OnErr result (self.new ≡ self.old) }
+
+        // A system that the book has takes no memory.
+        ensures err_only_if_new { OnErr result (Contains self.old system → ⊥) }
     {
         let _step = system.step();
         for id in 0..self.systems.len() {
