@@ -1,5 +1,5 @@
 -- What is read is in its form.
-use Rattle.std.proofs.Common.{◌≡◌, ℕ, zero, suc, ◌-◌, ◌<◌, ◌≤◌, Bool, true, false, cond, eqb, ◌&&◌, List, [], ◌∷◌, ◌++◌, length, take, drop, slice_index, Option, None, Some, Result, Ok, Err, refl, sym, ap, subst, ◌∙◌, append_assoc, arith, IfOk}
+use Rattle.std.proofs.Common.{◌≡◌, ℕ, zero, suc, ◌-◌, ◌<◌, ◌≤◌, Bool, true, false, cond, eqb, List, [], ◌∷◌, ◌++◌, length, slice_index, Option, None, Some, Result, Ok, Err, refl, sym, ap, subst, ◌∙◌, append_assoc, arith, IfOk}
 use Rattle.std.proofs.lemmas.List.{append-nil}
 use Rattle.std.proofs.lemmas.Bool.{eq-eqb}
 use Rattle.std.proofs.Math.Seq.{take-append_seam, drop-append_seam}
@@ -14,7 +14,7 @@ use Rattle.deck_lines.specs.declared.head_word.HeadWord.TheVariants as words
 use Rattle.deck_lines.specs.declared.statement.Statement.{Statement}
 use Rattle.deck_lines.specs.Words.{Piece, number_of}
 use Rattle.deck_lines.specs.LineFault.{◌>>=◌, fault, Gives}
-use Rattle.deck_lines.specs.Statements.{year, case, plant, candidate, group, project, period, fuel, shape, layout_of, head_of, word_of, index_of, allows, allows_each, are_groups, is_named, is_name, is_rule, is_within, number_in, number_at, fields_onto, groups_onto, name_at, statement_of, headed, head_word_of, stated_by, is_statement, IsStatement}
+use Rattle.deck_lines.specs.Statements.{year, case, plant, candidate, group, project, period, fuel, shape, layout_of, head_of, word_of, index_of, allows, allows_each, are_groups, is_named, is_name, is_rule, number_in, number_at, fields_onto, groups_onto, name_at, statement_of, headed, is_statement, IsStatement}
 use Rattle.deck_lines.proofs.Ranges.{both, allows_each-length}
 
 abbrev pub done : {A : Type 0} → A → Result A LineFault

@@ -1,6 +1,6 @@
 -- A line that is read is in its form.
-use Rattle.std.proofs.Common.{◌≡◌, ℕ, zero, suc, ◌+◌, ◌-◌, ◌*◌, ◌^◌, ◌<◌, ◌≤◌, Bool, true, false, cond, eqb, ◌&&◌, List, [], ◌∷◌, ◌++◌, length, take, drop, Option, None, Some, Result, Ok, Err, IfOk, IfSome, refl, sym, ap, subst, ◌∙◌, append_assoc, arith}
-use Rattle.std.specs.Prelude.{nat_lt, codes, slice_index, All}
+use Rattle.std.proofs.Common.{◌≡◌, ℕ, zero, suc, ◌+◌, ◌-◌, ◌^◌, ◌<◌, ◌≤◌, Bool, true, false, cond, eqb, List, [], ◌∷◌, ◌++◌, length, Option, None, Some, Result, Ok, Err, IfOk, IfSome, refl, sym, ap, subst, ◌∙◌, append_assoc, arith}
+use Rattle.std.specs.Prelude.{codes, slice_index, All}
 use Rattle.std.specs.Str.{bytes_eq}
 use Rattle.std.proofs.lemmas.List.{append-nil}
 use Rattle.std.proofs.lemmas.Bool.{eqb-true}
@@ -12,16 +12,15 @@ use Rattle.deck_lines.specs.declared.form.Form.{Form}
 use Rattle.deck_lines.specs.declared.form.Kind.{Kind}
 use Rattle.deck_lines.specs.declared.head_word.HeadWord.{HeadWord}
 use Rattle.deck_lines.specs.declared.line.Mode.{Mode}
-use Rattle.deck_lines.specs.declared.line.Mode.TheVariants as modes
 use Rattle.deck_lines.specs.declared.line.Line.{Line}
 use Rattle.deck_lines.specs.declared.line.Line.TheVariants as lines
 use Rattle.deck_lines.specs.declared.line.CertLine.TheVariants as certs
 use Rattle.deck_lines.specs.declared.line_word.LineWord.{LineWord}
 use Rattle.deck_lines.specs.declared.line_word.LineWord.TheVariants as words
-use Rattle.deck_lines.specs.Words.{Piece, number_of, words_of}
+use Rattle.deck_lines.specs.Words.{Piece, number_of}
 use Rattle.deck_lines.specs.LineFault.{◌>>=◌, fault, Gives}
-use Rattle.deck_lines.specs.Statements.{Layout, laid_out, repeated, case, year, layout_of, head_of, word_of, index_of, head_word_of, headed, allows, allows_each, are_groups, number_at, fields_onto, groups_onto}
-use Rattle.deck_lines.specs.Grammar.{number, count, ended, number_then, dropped, drop_line, counts_onto, AreCounts, value_at, come_line, chosen_line, single_line, behind, begun, has_statements, line_word_of, bad_byte, past_bytes, text_line, less_return, line_of, IsHead, IsLine}
+use Rattle.deck_lines.specs.Statements.{Layout, laid_out, repeated, case, year, layout_of, head_of, head_word_of, headed, allows, allows_each, are_groups, number_at, fields_onto, groups_onto}
+use Rattle.deck_lines.specs.Grammar.{number, count, ended, number_then, dropped, drop_line, counts_onto, AreCounts, value_at, come_line, chosen_line, single_line, behind, begun, has_statements, line_word_of, bad_byte, past_bytes, text_line, IsHead, IsLine}
 use Rattle.deck_lines.proofs.Ranges.{both, within}
 use Rattle.deck_lines.proofs.InForms.{bind_ok, guard_ok, ok_is, number_fits, fields_fit, groups_fit, headed_fits, word_of-head_of, index_of-head_of}
 

@@ -1,9 +1,8 @@
 -- What edits make of a deck.
-use Rattle.std.proofs.Common.{◌≡◌, ◌==◌, ℕ, ◌+◌, ◌<◌, ◌≤◌, Bool, true, false, not, cond, ◌&&◌, ◌||◌, List, [], ◌∷◌, ◌++◌, length, take, drop, set, get_or, reverse, Bor, Result, Ok, Err, OnOk, OnErr, Option, None, Some, IfSome, refl, sym, ap, subst, ◌∙◌, append_assoc, add-one, arith}
-use Rattle.std.specs.Prelude.{filter, fold, slice_set}
-use Rattle.std.specs.List.{list_any}
+use Rattle.std.proofs.Common.{◌≡◌, ℕ, ◌+◌, ◌<◌, Bool, true, false, not, cond, ◌&&◌, ◌||◌, List, [], ◌∷◌, ◌++◌, length, take, drop, set, get_or, reverse, Bor, Result, Ok, Err, OnOk, OnErr, Option, None, Some, IfSome, refl, sym, ap, subst, ◌∙◌, add-one}
+use Rattle.std.specs.Prelude.{filter, fold}
 use Rattle.std.specs.Option.{option_copied}
-use Rattle.std.proofs.lemmas.List.{take_more, drop_more, drop_all, take_all, set_split, reverse-append, reverse-reverse}
+use Rattle.std.proofs.lemmas.List.{drop_more, set_split, reverse-append, reverse-reverse}
 use Rattle.std.proofs.lemmas.List.Sums.{fold-append}
 use Rattle.deck_lines.specs.declared.head.Head.{Head}
 use Rattle.deck_lines.specs.declared.line.Line.{Line}
@@ -11,7 +10,7 @@ use Rattle.deck_lines.specs.declared.line.Line.TheVariants as lines
 use Rattle.deck_lines.specs.declared.statement.Statement.{Statement}
 use Rattle.deck_lines.specs.Body.{BodyParts}
 use Rattle.deck_lines.specs.Statements.{same_head, is_statement}
-use Rattle.deck_lines.specs.Deck.{looking_back, deck_at, has_head, is_deck, put, put_at, without, body_of, changed, DecksFollowScripts}
+use Rattle.deck_lines.specs.Deck.{looking_back, has_head, is_deck, put, without, body_of, changed, DecksFollowScripts}
 use Rattle.deck_lines.proofs.Ranges.{both}
 use Rattle.deck_lines.proofs.EqualHeads.{same_head-true, same_head-self}
 

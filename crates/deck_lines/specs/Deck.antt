@@ -1,5 +1,5 @@
 -- The deck as edited so far: the statements that stand, each head once. This program's own.
-use Rattle.std.specs.Prelude.{◌≡◌, ◌==◌, ◌&&◌, ℕ, Bool, true, false, not, List, [], ◌∷◌, ◌++◌, Option, None, Some, IsTrue, slice_set, filter, fold, reverse, if◌then◌else◌}
+use Rattle.std.specs.Prelude.{◌≡◌, ◌&&◌, ℕ, Bool, true, not, List, [], ◌∷◌, ◌++◌, Option, None, Some, IsTrue, slice_set, filter, fold, reverse, if◌then◌else◌}
 use Rattle.std.specs.List.{list_any}
 use Rattle.deck_lines.specs.declared.head.Head.{Head}
 use Rattle.deck_lines.specs.declared.line.Line.{Line}

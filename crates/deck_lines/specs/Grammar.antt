@@ -7,7 +7,6 @@ use Rattle.deck_lines.specs.declared.fault.LineKind.TheVariants as faults
 use Rattle.deck_lines.specs.declared.form.Kind.{Kind}
 use Rattle.deck_lines.specs.declared.head.Head.{Head}
 use Rattle.deck_lines.specs.declared.head_word.HeadWord.{HeadWord}
-use Rattle.deck_lines.specs.declared.statement.Statement.{Statement}
 use Rattle.deck_lines.specs.declared.line.Mode.{Mode}
 use Rattle.deck_lines.specs.declared.line.Mode.TheVariants as modes
 use Rattle.deck_lines.specs.declared.line.Line.{Line}

@@ -1,4 +1,3 @@
-use Rattle.std.proofs.Common.{◌∙◌}
 use Rattle.deck_lines.proofs.Placed.{get_fits}
 use Rattle.deck_lines.proofs.deck.Deck.get.Goals as goal
 
