@@ -65,7 +65,7 @@ abbrev pub IsParted : List ℕ → Type 0
 IsParted [] = Unit {0}
 IsParted (b ∷ bs) = is_space b ≡ true
 
-word_at : (column next b : ℕ) (run rest : List ℕ) → IsWord (b ∷ run) → IsParted rest → next ≡ column + length (b ∷ run) → words_from column (b ∷ run ++ rest) ≡ record { column = column; text = b ∷ run } ∷ words_from next rest
+pub word_at : (column next b : ℕ) (run rest : List ℕ) → IsWord (b ∷ run) → IsParted rest → next ≡ column + length (b ∷ run) → words_from column (b ∷ run ++ rest) ≡ record { column = column; text = b ∷ run } ∷ words_from next rest
 word_at column next b [] [] h p e = rw h.0 refl
 word_at column next b [] (s ∷ rest) h p e =
     let n : next ≡ column + 1 = omega (arith, e) in

@@ -5,4 +5,7 @@ pub mod InForms
 pub mod LineForms
 pub mod EqualHeads
 pub mod Placed
+pub mod Texts
+pub mod ReadBack
+pub mod ReadLine
 mod Rows

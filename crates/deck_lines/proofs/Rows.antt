@@ -1,6 +1,7 @@
 -- Worked rows of the definitions.
 use Rattle.std.proofs.Common.{◌≡◌, ℕ, [], ◌∷◌, Some, None, Ok, Err, refl}
 use Rattle.std.specs.Prelude.{codes}
+use Rattle.std.specs.Fmt.{digits}
 use Rattle.deck_lines.specs.declared.fault.LineKind.TheVariants as faults
 use Rattle.deck_lines.specs.declared.head.Head.TheVariants as heads
 use Rattle.deck_lines.specs.declared.line.Line.{Line}
@@ -12,7 +13,9 @@ use Rattle.deck_lines.specs.LineFault.{fault}
 use Rattle.deck_lines.specs.Statements.{stated_by, statement_of, fields_onto, groups_onto, name_at}
 use Rattle.deck_lines.specs.FirstPath.{first_line}
 use Rattle.deck_lines.specs.Grammar.{line_of, counts_onto}
+use Rattle.deck_lines.specs.Canonical.{text_of}
 use Rattle.deck_lines.specs.Deck.{deck_at}
+use Rattle.deck_lines.specs.Script.{script_from}
 
 -- words stand where their first byte stands, from 1
 columns : words_of (codes " ADD  3") ≡ record { column = 2; text = codes "ADD" } ∷ record { column = 7; text = codes "3" } ∷ []
@@ -82,3 +85,22 @@ two_returns = refl
 plan_in_check : line_of modes.Check (codes " PLAN") ≡ Err (fault faults.Word 2)
 unfolding line_of
 plan_in_check = refl
+
+-- ---- scripts
+
+-- a certificate ends at its ENDCHECK, a script at its END
+to_its_end : script_from modes.Check (codes "CHECK 2" ∷ codes "TOTAL 5" ∷ codes "ENDCHECK" ∷ codes "DROP ENS" ∷ codes "END" ∷ codes "ENS 1" ∷ []) ≡ lines.Check 2 ∷ lines.Cert (certs.Total 5) ∷ lines.EndCheck ∷ lines.Drop heads.Ens ∷ []
+unfolding line_of fields_onto
+to_its_end = refl
+
+to_its_fault : script_from modes.Plan (codes "PLAN" ∷ codes "PLAN 1" ∷ codes "PLAN" ∷ []) ≡ lines.Plan ∷ []
+unfolding line_of
+to_its_fault = refl
+
+text_of_add : text_of (record { head = heads.Add 7 30; body = record { name = []; numbers = 128 ∷ [] } }) ≡ codes "ADD 7 30 128"
+unfolding digits
+text_of_add = refl
+
+text_of_hydro : text_of (record { head = heads.Hydro 2; body = record { name = codes "Dam"; numbers = 0 ∷ 15 ∷ 10 ∷ [] } }) ≡ codes "HYDRO 2 Dam 0 15 10"
+unfolding digits
+text_of_hydro = refl

@@ -4,5 +4,6 @@ pub mod Body
 pub mod Statements
 pub mod FirstPath
 pub mod Grammar
+pub mod Canonical
 pub mod Deck
 pub mod Script

@@ -82,12 +82,16 @@ once index group = repeated index group 1 1
 abbrev pub named : List Kind → List Kind → Layout
 named index group = record { index = index; naming = naming.Named; group = group; least = 1; most = 1 }
 
+-- one word, `MERIT` or `BASE`
+abbrev pub ruled : Layout
+ruled = record { index = []; naming = naming.Rule; group = []; least = 0; most = 0 }
+
 abbrev pub layout_of : HeadWord → Layout
 layout_of words.Years = once [] (from_to 1 30 ∷ [])
 layout_of words.Periods = once [] (kinds.Periods ∷ [])
 layout_of words.Rate = once [] (from_to 0 10_000 ∷ from_to 0 10_000 ∷ [])
 layout_of words.Ens = once [] (from_to 0 10_000_000 ∷ [])
-layout_of words.Rule = record { index = []; naming = naming.Rule; group = []; least = 0; most = 0 }
+layout_of words.Rule = ruled
 layout_of words.Cases = once [] (case ∷ [])
 layout_of words.Conditions = repeated [] (from_to 0 10_000 ∷ []) 1 5
 layout_of words.Shape = repeated (shape ∷ []) (from_to 0 10_000 ∷ from_to 0 10_000 ∷ []) 2 64

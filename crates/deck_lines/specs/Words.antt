@@ -1,4 +1,4 @@
--- The words of a line, and the numbers that words spell.
+-- The words of a line, and the numbers that words spell. This program's own.
 use Rattle.std.specs.Prelude.{◌≡◌, ◌==◌, ◌||◌, ◌&&◌, ℕ, ◌+◌, ◌-◌, ◌*◌, Bool, false, List, [], ◌∷◌, length, Option, None, Some, nat_le, if◌then◌else◌}
 use Rattle.deck_lines.specs.declared.scan.Word.{Word}
 

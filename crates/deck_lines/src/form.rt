@@ -74,6 +74,29 @@ const LIFE: Kind = Kind::Number(1, 100);
 /// Hours of maintenance in a year.
 const REPAIR: Kind = Kind::Number(0, 8760);
 
+/// Hundredths of a percent by which a price rises in a year.
+const RISE: Kind = Kind::Number(0, 1000);
+/// Megawatts of a peak.
+const PEAK: Kind = Kind::Number(1, 400_000);
+/// Projects of a hydro group.
+const SITES: Kind = Kind::Number(0, 15);
+
+/// Units, least and full, heat and inc, fuel, fixed, variable, outage, repair.
+const PLANT_FIELDS: &[Kind] = &[
+    UNITS, BLOCK, BLOCK, RATED, RATED, FUEL, PARTS, WIDE, PARTS, REPAIR,
+];
+
+/// Those of a plant, its greatest count in the place of the units, and capdom, capfor, stock, life.
+const THERMAL_FIELDS: &[Kind] = &[
+    UNITS, BLOCK, BLOCK, RATED, RATED, FUEL, PARTS, WIDE, PARTS, REPAIR, RATED, RATED, PARTS, LIFE,
+];
+
+/// Capacity, capdom, capfor, life.
+const PROJECT_FIELDS: &[Kind] = &[WATER, RATED, RATED, LIFE];
+
+/// Base, peak, energy.
+const WATER_FIELDS: &[Kind] = &[WATER, WATER, ENERGY];
+
 impl Kind {
     /// Whether the number is in the range.
     pub(crate) fn allows(self, n: u64) -> bool
@@ -122,62 +145,46 @@ impl Form {
         }
     }
 
+    fn rule() -> Form
+        ensures { spec.laid_out result ≡ spec.ruled }
+    {
+        Form {
+            index: &[],
+            naming: Naming::Rule,
+            group: &[],
+            least: 0,
+            most: 0,
+        }
+    }
+
     /// What stands behind a head word.
     pub(crate) fn of(word: HeadWord) -> Form
         ensures { spec.laid_out result ≡ spec.layout_of word }
     {
         match word {
-            HeadWord::Years => Form::once(&[], &[Kind::Number(1, 30)]),
+            HeadWord::Years => Form::once(&[], &[YEAR]),
             HeadWord::Periods => Form::once(&[], &[Kind::Periods]),
             HeadWord::Rate => Form::once(&[], &[PARTS, PARTS]),
             HeadWord::Ens => Form::once(&[], &[UNSERVED]),
-            HeadWord::Rule => Form {
-                index: &[],
-                naming: Naming::Rule,
-                group: &[],
-                least: 0,
-                most: 0,
-            },
+            HeadWord::Rule => Form::rule(),
             HeadWord::Cases => Form::once(&[], &[CASE]),
             HeadWord::Conditions => Form::repeated(&[], &[PARTS], 1, 5),
             HeadWord::Shape => Form::repeated(&[SHAPE], &[PARTS, PARTS], 2, 64),
             HeadWord::Fuel => Form::once(&[FUEL], &[RATED, RATED]),
-            HeadWord::Load => Form::repeated(&[YEAR], &[Kind::Number(1, 400_000), SHAPE], 1, 12),
-            HeadWord::Plant => Form::named(
-                &[PLANT],
-                &[
-                    UNITS, BLOCK, BLOCK, RATED, RATED, FUEL, PARTS, WIDE, PARTS, REPAIR,
-                ],
-            ),
+            HeadWord::Load => Form::repeated(&[YEAR], &[PEAK, SHAPE], 1, 12),
+            HeadWord::Plant => Form::named(&[PLANT], PLANT_FIELDS),
             HeadWord::Add => Form::once(&[PLANT, YEAR], &[UNITS]),
             HeadWord::Retire => Form::once(&[PLANT, YEAR], &[UNITS]),
-            HeadWord::Thermal => Form::named(
-                &[CANDIDATE],
-                &[
-                    UNITS, BLOCK, BLOCK, RATED, RATED, FUEL, PARTS, WIDE, PARTS, REPAIR, RATED,
-                    RATED, PARTS, LIFE,
-                ],
-            ),
-            HeadWord::Hydro => Form::named(
-                &[GROUP],
-                &[Kind::Number(0, 15), Kind::Number(0, 15), PARTS],
-            ),
-            HeadWord::Project => Form::once(&[GROUP, PROJECT], &[WATER, RATED, RATED, LIFE]),
-            HeadWord::Water => Form::repeated(
-                &[GROUP, PROJECT, PERIOD],
-                &[WATER, WATER, ENERGY],
-                1,
-                5,
-            ),
+            HeadWord::Thermal => Form::named(&[CANDIDATE], THERMAL_FIELDS),
+            HeadWord::Hydro => Form::named(&[GROUP], &[SITES, SITES, PARTS]),
+            HeadWord::Project => Form::once(&[GROUP, PROJECT], PROJECT_FIELDS),
+            HeadWord::Water => Form::repeated(&[GROUP, PROJECT, PERIOD], WATER_FIELDS, 1, 5),
             HeadWord::Tunnel => Form::repeated(&[CASE, YEAR], &[UNITS, UNITS], 1, 14),
             HeadWord::Margin => Form::once(&[CASE, YEAR], &[WIDE, WIDE]),
             HeadWord::Lolp => Form::once(&[CASE, YEAR], &[LOSS, LOSS]),
             HeadWord::Version => Form::once(&[], &[Kind::Number(1, 2)]),
             HeadWord::EnsMore => Form::once(&[], &[UNSERVED, UNSERVED]),
-            HeadWord::Escalate => Form::once(
-                &[],
-                &[Kind::Number(0, 1_000), Kind::Number(0, 1_000)],
-            ),
+            HeadWord::Escalate => Form::once(&[], &[RISE, RISE]),
             HeadWord::Grid => Form::once(&[], &[Kind::Number(1, 20)]),
         }
     }

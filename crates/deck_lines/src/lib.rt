@@ -1,11 +1,15 @@
-//! The lines of decks, scripts and certificates.
+//! The lines of decks, scripts and certificates, and the deck that they edit.
 //!
 //! What LOADSY, FIXSYS, VARSYS, CONGEN and DYNPRO read from cards (IAEA Computer Manual Series No. 16)
 //! stands here in statements, one a line; the line format and its limits are this program's own. One
-//! table says what stands behind each head word, and one reader meets it: there is no function per
-//! statement. A line is read exactly by its grammar, or refused with its first fault and the column.
+//! table says what stands behind each head word, and one reader meets it.
 //!
-//! Stands on `wasp_fixed` alone. What is read is in its form, each number in its range.
+//! Stands on `wasp_fixed` and, for the configurations of certificates, on `plant_data`. The contract
+//! that the layers above use: `read_line` answers exactly the line of the grammar, in its form and its
+//! ranges, or its first fault; and a `Deck` is the map that the script defines by looking back.
+//!
+//! A line has at most 4,096 bytes, a number 18 digits, a name 8 bytes. Whether a deck is complete and
+//! fits together is looked at above. `read_first` reads eleven lines of one form alone.
 #![tactic(auto)]
 
 mod behind;
@@ -31,5 +35,5 @@ pub use deck::{Deck, decks_follow_scripts};
 pub use fault::{LineError, LineFault, LineKind};
 pub use first::read_first;
 pub use head::Head;
-pub use line::{CertLine, Line, MAX_LINE, Mode, read_line};
+pub use line::{CertLine, Line, MAX_LINE, Mode, read_line, statements_read_back};
 pub use statement::Statement;

@@ -4,6 +4,7 @@ ghost use Rattle.deck_lines.specs.Words.{piece_of, words_of};
 ghost use Rattle.deck_lines.specs.LineFault.{Gives};
 ghost use Rattle.deck_lines.specs.Grammar as spec;
 ghost use Rattle.deck_lines.specs.Grammar.{IsLine};
+ghost use Rattle.deck_lines.specs.Canonical.{StatementsReadBack};
 
 use crate::behind::behind;
 use crate::fault::{LineError, LineKind};
@@ -148,3 +149,9 @@ pub fn read_line(alloc: Global, mode: Mode, bytes: &[u8]) -> Result<Line, LineEr
     }
     text_line(alloc, mode, without_return(bytes))
 }
+
+/// The text of every statement, its words one space apart and its numbers without leading zeros, is
+/// read back as that statement.
+pub fn statements_read_back()
+    ensures { StatementsReadBack }
+{}
