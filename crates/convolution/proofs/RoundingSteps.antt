@@ -1,9 +1,10 @@
 -- One convolution more puts a curve at most one more below the exact load.
-use Rattle.std.proofs.Common.{◌≡◌, ℕ, ◌+◌, ◌-◌, ◌*◌, ◌^◌, ◌<◌, ◌≤◌, List, [], ◌∷◌, ◌++◌, length, suc, true, false, cond, ltb, refl, arith, lit<, length-append}
+use Rattle.std.proofs.Common.{◌≡◌, ℕ, ◌+◌, ◌-◌, ◌*◌, ◌^◌, ◌<◌, ◌≤◌, List, [], ◌∷◌, ◌++◌, length, suc, All, append_assoc, append-nil, true, false, cond, ltb, refl, arith, lit<, length-append}
 use Rattle.std.proofs.Math.Nat.{mul-div-le, lt-div-mul-add, mul-le-mul_left, pow-succ', le_refl}
+use Rattle.std.proofs.lemmas.List.Elements.{All-head, All-tail}
 use Rattle.wasp_fixed.specs.Curves.{before}
 use Rattle.wasp_fixed.specs.declared.numbers.TheConstants.{ONE, M}
-use Rattle.convolution.specs.EquivalentLoad.{Part, two_states, eq_step}
+use Rattle.convolution.specs.EquivalentLoad.{Part, two_states, eq_step, equivalent_load}
 use Rattle.convolution.specs.ExactLoad.{exact_step, exact_onto, exact_load, IsWithin}
 
 -- one unit more at the end of the list
@@ -73,3 +74,24 @@ IsWithin-step curve next base part parts k r step within =
           let l = rw whole at (high keep part.rate (M ^ n) k (curve x) o (exact x) eo (within.near x) h) in
           rw (exact_load-snoc base parts part, length-snoc parts part, pow-more n, step x) (floored-high M (M ^ n) k (two_states part.rate (curve x) o) (exact_step n exact part x) _ (lt-le (lt-div-mul-add (lit< tt))) l);
     }
+
+-- the units of the rest of a list, where those before it are in the curve
+IsWithin-onto : (base : ℕ → ℕ) (parts done : List Part) (curve : ℕ → ℕ) (k : ℕ) → All (λ part. part.rate ≤ M) parts → IsWithin k curve base done → IsWithin (k + length parts) (equivalent_load curve parts) base (done ++ parts)
+IsWithin-onto base [] done curve k rates within =
+    let e : k + 0 ≡ k = omega arith in
+    rw (e, append-nil done) within
+IsWithin-onto base (part ∷ parts) done curve k rates within =
+    let e : k + length (part ∷ parts) ≡ k + 1 + length parts = omega arith in
+    let a : (done ++ part ∷ []) ++ parts ≡ done ++ part ∷ parts = append_assoc done (part ∷ []) parts in
+    let next = IsWithin-step curve (eq_step curve part.capacity part.rate) base part done k (All-head (λ p. p.rate ≤ M) part parts rates) (λ x. refl) within in
+    rw (e, ← a) (IsWithin-onto base parts (done ++ part ∷ []) (eq_step curve part.capacity part.rate) (k + 1) (All-tail (λ p. p.rate ≤ M) part parts rates) next)
+
+-- n units put the equivalent load at most n below the exact load
+pub equivalent_load-IsWithin : (base : ℕ → ℕ) (parts : List Part) → All (λ part. part.rate ≤ M) parts → IsWithin (length parts) (equivalent_load base parts) base parts
+equivalent_load-IsWithin base parts rates =
+    let none : IsWithin 0 base base [] = record {
+      not_above = λ x. omega arith;
+      near = λ x. omega arith;
+    } in
+    let e : 0 + length parts ≡ length parts = omega arith in
+    rw e at (IsWithin-onto base parts [] base 0 rates none)

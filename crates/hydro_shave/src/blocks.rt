@@ -18,7 +18,7 @@ pub fn shift(curve: &mut Curve, base: u64)
 }
 
 /// The level, in cells, from which a peak block of `peak_mw` cells and `energy` MWh shaves the curve: the
-/// least one from which it takes no more than its energy.
+/// least L with `(F(L) + .. + F(L + peak_mw - 1)) * hours <= energy * ONE`.
 ///
 /// A peak block is at most 600,000 cells, an energy at most 6,000,000,000 MWh, and `hours` are those of
 /// the period times the MW of a cell, at most 175,200.

@@ -31,8 +31,10 @@ fn push_between(low: Point, high: Point, peak: u64, step: u64, curve: &mut Curve
     }
 }
 
-/// Makes the curve the load duration curve of a period, in cells of `step` MW: its cells are those of
-/// the formula from 0 up to the peak. The room stays.
+/// Makes the curve the load duration curve of a period, in cells of `step` MW, in parts of `ONE`: cell x
+/// is `P - floor((P - Q) * (y - l * peak) / ((m - l) * peak))`, where y is `x * step * 10000` and the
+/// neighbours that y lies between have the loads l and m and the shares P and Q. The list ends at the
+/// peak. The room stays.
 ///
 /// The peak is in MW, at most 400,000, the step is from 1 to 20 MW, and the room holds the cells.
 pub fn fill_curve(peak: u64, step: u64, shape: &Shape, curve: &mut Curve)

@@ -25,7 +25,8 @@ pub fn share_between(low: Point, high: Point, peak: u64, load: u64) -> u64
     low.share * SHARE - fall * (load - low.load * peak) / ((high.load - low.load) * peak)
 }
 
-/// The load duration curve at cell `x` of `step` MW, in parts of `ONE`: 0 from the peak on.
+/// The load duration curve at cell `x` of `step` MW, in parts of `ONE`: as `fill_curve` makes it, and 0
+/// from the peak on.
 ///
 /// The peak is in MW, at most 400,000, and the step is from 1 to 20 MW.
 pub fn curve_at(peak: u64, step: u64, shape: &Shape, x: u64) -> u64
