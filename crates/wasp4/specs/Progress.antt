@@ -16,6 +16,16 @@ abbrev pub status_of : Ending → Status
 status_of endings.Done = statuses.Done
 status_of endings.Malformed = statuses.Malformed
 
+-- the exit status of the program
+abbrev pub exit_of : Status → ℕ
+exit_of statuses.Done = 0
+exit_of statuses.CheckNo = 1
+exit_of statuses.Malformed = 2
+exit_of statuses.BadWords = 3
+exit_of statuses.OutOfMemory = 4
+exit_of statuses.ReadFault = 5
+exit_of statuses.WriteFault = 6
+
 -- however the script goes on behind these lines, its outcome is this text, and then that of the state behind them
 abbrev pub LeadsTo : State → ℕ → List (List ℕ) → List ℕ → State → ℕ → Type 0
 LeadsTo s n lines said t m = (more : List (List ℕ)) → outcome_from s n (lines ++ more) ≡ onward said (outcome_from t m more)

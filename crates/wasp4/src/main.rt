@@ -46,25 +46,13 @@ fn read_words(rt: &(impl Env + AllocGlobal), alloc: Global) -> Result<CommandWor
     Ok(words)
 }
 
-fn exit_status(status: Status) -> u8 {
-    match status {
-        Status::Done => 0,
-        Status::CheckNo => 1,
-        Status::Malformed => 2,
-        Status::BadWords => 3,
-        Status::OutOfMemory => 4,
-        Status::ReadFault => 5,
-        Status::WriteFault => 6,
-    }
-}
-
 fn main(rt: HostRuntime) -> ExitCode {
     let alloc = rt.alloc();
     let Ok(words) = read_words(&rt, alloc) else {
-        return ExitCode::from(exit_status(Status::OutOfMemory));
+        return ExitCode::from(Status::OutOfMemory.exit());
     };
     let mut source = StdSource::new(rt.reader());
     let mut sink = StdSink::new(io::writer(&rt));
     let status = run(&rt, alloc, &words, &mut source, &mut sink);
-    ExitCode::from(exit_status(status))
+    ExitCode::from(status.exit())
 }

@@ -1,6 +1,6 @@
 //! How a turn, a script and a run end.
 ghost use Rattle.std.specs.Prelude.{◌≡◌};
-ghost use Rattle.wasp4.specs.Progress.{status_of};
+ghost use Rattle.wasp4.specs.Progress.{exit_of, status_of};
 
 /// How a script that was read ends.
 #[derive(Clone, Copy, Debug, PartialEq, Eq)]
@@ -42,6 +42,23 @@ impl Ending {
         match self {
             Ending::Done => Status::Done,
             Ending::Malformed => Status::Malformed,
+        }
+    }
+}
+
+impl Status {
+    /// The exit status of the program.
+    pub(crate) fn exit(self) -> u8
+        ensures { result ≡ exit_of self }
+    {
+        match self {
+            Status::Done => 0,
+            Status::CheckNo => 1,
+            Status::Malformed => 2,
+            Status::BadWords => 3,
+            Status::OutOfMemory => 4,
+            Status::ReadFault => 5,
+            Status::WriteFault => 6,
         }
     }
 }
