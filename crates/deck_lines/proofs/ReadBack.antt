@@ -1,13 +1,11 @@
 -- The text of a statement is read back as that statement.
-use Rattle.std.proofs.Common.{◌≡◌, ◌==◌, ℕ, zero, suc, ◌+◌, ◌-◌, ◌*◌, ◌^◌, ◌<◌, ◌≤◌, Bool, true, false, cond, eqb, ◌&&◌, ◌||◌, List, [], ◌∷◌, ◌++◌, length, take, drop, map, Option, None, Some, Result, Ok, Err, refl, sym, ap, subst, ◌∙◌, append_assoc, arith}
-use Rattle.std.specs.Prelude.{nat_le, nat_lt, codes, decimal, slice_index}
+use Rattle.std.proofs.Common.{◌≡◌, ℕ, zero, suc, ◌+◌, ◌-◌, ◌*◌, ◌^◌, ◌<◌, ◌≤◌, Bool, true, false, ◌&&◌, List, [], ◌∷◌, ◌++◌, length, take, drop, map, Result, Ok, refl, sym, ap, subst, ◌∙◌, append_assoc, arith}
+use Rattle.std.specs.Prelude.{nat_le, nat_lt, decimal}
 use Rattle.std.specs.List.{list_all}
-use Rattle.std.specs.Str.{bytes_eq}
 use Rattle.std.proofs.lemmas.Bool.Decides.{nat_tests}
 use Rattle.std.proofs.lemmas.Bool.{eqb-true, leb-true}
-use Rattle.std.proofs.lemmas.List.{append-nil, map-append, length-append, length-map, take-append-drop}
+use Rattle.std.proofs.lemmas.List.{append-nil, map-append, length-append, take-append-drop}
 use Rattle.deck_lines.specs.declared.fault.LineFault.{LineFault}
-use Rattle.deck_lines.specs.declared.fault.LineKind.TheVariants as faults
 use Rattle.deck_lines.specs.declared.form.Kind.{Kind}
 use Rattle.deck_lines.specs.declared.form.Kind.TheVariants as kinds
 use Rattle.deck_lines.specs.declared.form.Naming.{Naming}
@@ -16,16 +14,13 @@ use Rattle.deck_lines.specs.declared.head.Head.{Head}
 use Rattle.deck_lines.specs.declared.head.Head.TheVariants as heads
 use Rattle.deck_lines.specs.declared.head_word.HeadWord.{HeadWord}
 use Rattle.deck_lines.specs.declared.head_word.HeadWord.TheVariants as words
-use Rattle.deck_lines.specs.declared.line.Line.TheVariants as lines
-use Rattle.deck_lines.specs.declared.line.Mode.{Mode}
-use Rattle.deck_lines.specs.declared.line.Mode.TheVariants as modes
 use Rattle.deck_lines.specs.declared.statement.Statement.{Statement}
-use Rattle.deck_lines.specs.Words.{Piece, number_of}
-use Rattle.deck_lines.specs.LineFault.{◌>>=◌, fault}
-use Rattle.deck_lines.specs.Statements.{layout_of, spelling_of, head_of, word_of, index_of, allows, allows_each, are_groups, is_named, is_name, is_rule, number_in, number_at, fields_onto, groups_onto, name_at, statement_of, is_statement, IsStatement}
-use Rattle.deck_lines.specs.Canonical.{spaced, name_words, words_behind}
+use Rattle.deck_lines.specs.Words.{Piece}
+use Rattle.deck_lines.specs.LineFault.{◌>>=◌}
+use Rattle.deck_lines.specs.Statements.{layout_of, spelling_of, head_of, word_of, index_of, allows, allows_each, are_groups, is_named, number_at, fields_onto, groups_onto, name_at, statement_of, is_statement, IsStatement}
+use Rattle.deck_lines.specs.Canonical.{name_words, words_behind}
 use Rattle.deck_lines.proofs.Ranges.{both, within, allows_each-length}
-use Rattle.deck_lines.proofs.Texts.{is_plain, IsPlain, ArePlain, ArePlain-append, placed, past, placed-append, number_of-decimal, decimal_plain, decimal_short}
+use Rattle.deck_lines.proofs.Texts.{is_plain, placed, past, placed-append, number_of-decimal}
 
 -- ---- numbers of at most ten digits
 

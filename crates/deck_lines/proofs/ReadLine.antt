@@ -1,5 +1,5 @@
 -- The line of the text of a statement.
-use Rattle.std.proofs.Common.{◌≡◌, ◌==◌, ℕ, zero, suc, ◌+◌, ◌-◌, ◌*◌, ◌^◌, ◌<◌, ◌≤◌, Bool, true, false, cond, eqb, ◌&&◌, ◌||◌, List, [], ◌∷◌, ◌++◌, length, map, Option, None, Some, Result, Ok, Err, refl, sym, ap, subst, ◌∙◌, append_assoc, arith, inl, inr}
+use Rattle.std.proofs.Common.{◌≡◌, ◌==◌, ℕ, ◌+◌, ◌*◌, ◌≤◌, Bool, true, false, ◌&&◌, ◌||◌, List, [], ◌∷◌, ◌++◌, length, map, None, Some, Ok, refl, sym, ap, subst, ◌∙◌, append_assoc, arith, inl, inr}
 use Rattle.std.specs.Prelude.{◌⊎◌, nat_le, nat_lt, codes, decimal, slice_index}
 use Rattle.std.specs.List.{list_all}
 use Rattle.std.specs.Str.{bytes_eq}
@@ -11,19 +11,16 @@ use Rattle.deck_lines.specs.declared.form.Naming.{Naming}
 use Rattle.deck_lines.specs.declared.form.Naming.TheVariants as naming
 use Rattle.deck_lines.specs.declared.head_word.HeadWord.{HeadWord}
 use Rattle.deck_lines.specs.declared.head_word.HeadWord.TheVariants as words
-use Rattle.deck_lines.specs.declared.line.Line.{Line}
 use Rattle.deck_lines.specs.declared.line.Line.TheVariants as lines
 use Rattle.deck_lines.specs.declared.line.Mode.{Mode}
 use Rattle.deck_lines.specs.declared.line.Mode.TheVariants as modes
 use Rattle.deck_lines.specs.declared.statement.Statement.{Statement}
-use Rattle.deck_lines.specs.Words.{Piece, words_of}
-use Rattle.deck_lines.specs.LineFault.{◌>>=◌, fault}
-use Rattle.deck_lines.specs.Statements.{layout_of, spelling_of, head_word_of, word_of, index_of, allows_each, are_groups, is_named, is_name, is_name_byte, is_rule, statement_of, headed, IsStatement}
-use Rattle.deck_lines.specs.Grammar.{line_word_of, has_statements, begun, bad_byte, past_bytes, text_line, less_return, line_of}
+use Rattle.deck_lines.specs.Statements.{layout_of, spelling_of, head_word_of, word_of, index_of, is_named, is_name_byte, IsStatement}
+use Rattle.deck_lines.specs.Grammar.{line_word_of, has_statements, bad_byte, text_line, line_of}
 use Rattle.deck_lines.specs.Canonical.{spaced, name_words, words_behind, text_of, StatementsReadBack}
 use Rattle.deck_lines.proofs.Ranges.{both, allows_each-length}
 use Rattle.deck_lines.proofs.Texts.{is_plain, IsPlain, ArePlain, ArePlain-append, placed, all_words, text_line_bytes, bad_byte-none, less_return-same, decimal_plain, decimal_short}
-use Rattle.deck_lines.proofs.ReadBack.{AreShort, fields_short, groups_short, groups_length, Suits, suit, Parts, parts, statement_back}
+use Rattle.deck_lines.proofs.ReadBack.{AreShort, fields_short, groups_short, groups_length, suit, parts, statement_back}
 
 -- ---- plain words
 
