@@ -32,6 +32,11 @@ for cpu in x86-64-v2 x86-64-v3; do
     gcc -O3 -march=$cpu -DPLAIN "$here/convolution.c" -o "$work/bin/$cpu c-plain convolution"
     gcc -O3 -march=$cpu "$here/curves.c" -o "$work/bin/$cpu c curves"
 done
+# what gcc gives by its default features, and with AVX2 alone
+for program in convolution curves; do
+    gcc -O3 "$here/$program.c" -o "$work/bin/x86-64-v2 c-O3 $program"
+    gcc -O3 -mavx2 "$here/$program.c" -o "$work/bin/x86-64-v3 c-O3-mavx2 $program"
+done
 for turn in 1 2 3 4 5; do
     for program in "$work"/bin/*; do
         name=$(basename "$program")
@@ -52,7 +57,7 @@ awk '{
 END {
     for (i = 1; i <= count; i++) {
         split(order[i], part, SUBSEP)
-        printf "%-19s %-8s %6.3f ns a cell %5.2f\n", part[1], part[2], least[order[i]], least[order[i]] / best[part[1]]
+        printf "%-19s %-11s %6.3f ns a cell %5.2f\n", part[1], part[2], least[order[i]], least[order[i]] / best[part[1]]
     }
     exit failed
 }' "$work/times"
