@@ -1,4 +1,4 @@
-// Words of a line, from left to right.
+//! The words of a line, from left to right.
 ghost use Rattle.std.specs.Prelude.{◌≡◌, ◌<◌, ◌≤◌, ◌+◌, ◌-◌, ℕ, List, [], ◌∷◌, length, take, drop, slice_index, IfNone, MatchOption, MatchBool, true, false};
 ghost use Rattle.deck_lines.specs.Words as spec;
 ghost use Rattle.deck_lines.specs.Words.{Piece, piece_of, words_from, IsWord};

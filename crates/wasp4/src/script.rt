@@ -1,5 +1,5 @@
 //! What is known of a script between its lines.
-ghost use Rattle.std.specs.Prelude.{◌≡◌, ◌≤◌, [], IfOk, length};
+ghost use Rattle.std.specs.Prelude.{◌≡◌, ◌≤◌, ℕ, List, [], IfOk, length};
 ghost use Rattle.wasp4.specs.Out.{start};
 
 use crate::case::Case;
@@ -100,9 +100,9 @@ impl Script {
     }
 
     /// The END.
-    fn hear_end(&self, line: &[u8], text: &Vec<u8>) -> Heard
+    fn hear_end(&self, line: &[u8]) -> Heard
         requires short { length line.now ≤ 4096 }
-        ensures { HeardAs self.now self.now 13 line.now text.now.items result }
+        ensures { (said : List ℕ) → HeardAs self.now self.now 13 line.now said result }
     {
         if line == b"END".as_slice() {
             Heard::Ends
@@ -130,6 +130,6 @@ impl Script {
         if number == 12 {
             return self.hear_plan(line, text);
         }
-        Ok(self.hear_end(line, text))
+        Ok(self.hear_end(line))
     }
 }

@@ -20,7 +20,7 @@ fn fill_flat(peak: u64, load: &mut Curve)
     ensures value { (x : ℕ) → cell load.new.cells x ≡ spec.flat_load peak x }
 {
     load.clear();
-    for x in 0..peak {
+    for _ in 0..peak {
         load.push(ONE);
     }
 }

@@ -17,7 +17,7 @@ pub fn discount(rate: u64, years: u64) -> u64
     ensures most { result ≤ ONE }
 {
     let mut factor = ONE;
-    for year in 0..years {
+    for _ in 0..years {
         factor = mul_div_floor(factor, WHOLE, WHOLE + rate);
     }
     factor
