@@ -1,6 +1,7 @@
 pub mod Bounds
 pub mod Choosing
 pub mod Costing
+pub mod FlatLoads
 pub mod Loading
 pub mod Outcomes
 pub mod Progressing

@@ -1,12 +1,14 @@
 -- The row of a configuration, as MERSIM has it (IAEA Computer Manual Series No. 16): each block's energy on the
 -- equivalent load of the units before it, and the loss of load after all of them. Here for one flat period of
 -- 8,760 hours and units of one block and one cost, which are loaded in the order of their numbers.
-use Rattle.std.specs.Prelude.{◌-◌, ◌+◌, ◌*◌, ◌/◌, ℕ, map, nat_lt, replicate, sum, if◌then◌else◌}
+use Rattle.std.specs.Prelude.{◌≡◌, ◌-◌, ◌+◌, ◌*◌, ◌/◌, ℕ, map, nat_lt, replicate, sum, if◌then◌else◌, List, [], ◌∷◌}
 use Rattle.std.specs.List.{range_with_len}
 use Rattle.wasp_fixed.specs.Curves.{area}
 use Rattle.wasp_fixed.specs.declared.numbers.TheConstants.{M, ONE}
 use Rattle.convolution.specs.EquivalentLoad.{Part, equivalent_load}
+use Rattle.load_curves.specs.LoadCurve.{load_curve}
 use Rattle.plant_data.specs.declared.row.Row.{Row}
+use Rattle.plant_data.specs.declared.shape.Point.{Point}
 use Rattle.wasp4.specs.declared.case.Case.{Case}
 
 -- the hours of a year
@@ -55,3 +57,13 @@ row case count = record {
   short4 = 0;
   short5 = 0;
 }
+
+-- ---- what the flat load is
+
+-- the two points of a flat shape, in ten-thousandths of the peak and of the time
+abbrev pub flat_points : List Point
+flat_points = record { load = 0; share = 10000 } ∷ record { load = 10000; share = 10000 } ∷ []
+
+-- the flat load is the load duration curve of the flat shape, in cells of 1 MW
+abbrev pub FlatLoadIsLoadCurve : Type 0
+FlatLoadIsLoadCurve = (peak x : ℕ) → flat_load peak x ≡ load_curve peak 1 flat_points x

@@ -21,6 +21,7 @@ mod turn;
 mod words;
 
 pub use choose::least_cost_is_least;
+pub use simulate::flat_load_is_load_curve;
 pub use status::{Ending, Status};
 use std::alloc::Global;
 use std::process::ExitCode;

@@ -90,3 +90,8 @@ pub(crate) fn simulate(case: &Case, count: u64, load: &mut Curve) -> Row
         short5: 0,
     }
 }
+
+/// The flat load is the load duration curve of the flat shape.
+pub fn flat_load_is_load_curve()
+    ensures { spec.FlatLoadIsLoadCurve }
+{}
