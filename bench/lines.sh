@@ -6,15 +6,7 @@ here=$(cd "$(dirname "$0")" && pwd)
 work=$(mktemp -d)
 trap 'rm -rf "$work"' EXIT
 
-mkdir "$work/crates"
-cp "$here/../HANDLES" "$work"
-for crate in wasp_fixed plant_data deck_lines; do
-    mkdir "$work/crates/$crate"
-    for part in src specs proofs; do
-        cp -r "$here/../crates/$crate/$part" "$work/crates/$crate"
-    done
-    grep "^$crate:" "$here/../crates.txt" >> "$work/crates.txt"
-done
+"$here/copy.sh" "$work" wasp_fixed plant_data deck_lines
 echo 'time_lines: deck_lines' >> "$work/crates.txt"
 mkdir -p "$work/crates/time_lines/src"
 cp "$here/lines.rt.txt" "$work/crates/time_lines/src/main.rt"

@@ -6,15 +6,7 @@ here=$(cd "$(dirname "$0")" && pwd)
 work=$(mktemp -d)
 trap 'rm -rf "$work"' EXIT
 
-mkdir "$work/crates"
-cp "$here/../HANDLES" "$work"
-for crate in wasp_fixed plant_data convolution load_curves hydro_shave; do
-    mkdir "$work/crates/$crate"
-    for part in src specs proofs; do
-        cp -r "$here/../crates/$crate/$part" "$work/crates/$crate"
-    done
-    grep "^$crate:" "$here/../crates.txt" >> "$work/crates.txt"
-done
+"$here/copy.sh" "$work" wasp_fixed plant_data convolution load_curves hydro_shave
 echo 'time_convolution: convolution' >> "$work/crates.txt"
 echo 'time_curves: plant_data convolution load_curves hydro_shave' >> "$work/crates.txt"
 mkdir -p "$work/crates/time_convolution/src" "$work/crates/time_curves/src" "$work/crates/time_curves/proofs/shape"
