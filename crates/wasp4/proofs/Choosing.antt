@@ -2,15 +2,17 @@
 use Rattle.std.proofs.Common.{◌≡◌, ◌<◌, ◌≤◌, ℕ, suc, ◌+◌, ◌-◌, Bool, true, false, List, [], ◌∷◌, cond, leb, Option, None, Some, refl, sym, subst, arith}
 use Rattle.std.specs.Prelude.{All, MatchOption}
 use Rattle.std.specs.List.{AllPairs, range_with_len}
+use Rattle.std.specs.List.Sorted.{IsStrictlyIncreasing}
 use Rattle.std.proofs.lemmas.Bool.{leb-true, leb-false}
-use Rattle.std.proofs.lemmas.List.Kept.{AllPairs-from_increasing}
+use Rattle.std.proofs.lemmas.List.Kept.{AllPairs-from_increasing, IsStrictlyIncreasing-filter}
+use Rattle.std.proofs.lemmas.List.FromFn.{get_or-range_with_len, length-range_with_len}
 use Rattle.std.proofs.lemmas.List.Elements.{All-cons, All-nil}
 use Rattle.wasp4.specs.declared.case.Case.{Case}
 use Rattle.wasp4.specs.declared.choose.Best.{Best}
 use Rattle.wasp4.specs.declared.choose.Choice.{Choice}
 use Rattle.wasp4.specs.Row.{row}
 use Rattle.wasp4.specs.Cost.{cost}
-use Rattle.wasp4.specs.Chosen.{accepted_of, cheaper, keeps_limit, keeps_margin, least_cost, with_cost, IsChoice, IsLeast, LeastCostIsLeast}
+use Rattle.wasp4.specs.Chosen.{accepted_of, cheaper, keeps_limit, keeps_margin, least_cost, with_cost, IsChoice, IsLeast, ChosenIsLeast, accepted, listed_of, tunnel}
 
 pub found_more : (case : Case) (count : ℕ) (counts : List ℕ) (best : Best) (old : Choice) → keeps_margin case count ≡ true → keeps_limit case (row case count) ≡ true
     → Some best ≡ with_cost (cost case) (Some (cheaper (cost case) count (least_cost (cost case) (accepted_of case counts))))
@@ -76,5 +78,16 @@ unfolding least_cost
 least_is cost_of [] h = refl
 least_is cost_of (x ∷ xs) h = one_more cost_of x xs (least_cost cost_of xs) (rises x xs h) (least_is cost_of xs (rest_rises x xs h))
 
-pub least_cost_law : LeastCostIsLeast
-least_cost_law cost_of xs h = least_is cost_of xs (AllPairs-from_increasing xs h)
+-- a range rises, and so does what is taken out of it
+range_rises : (a n : ℕ) → IsStrictlyIncreasing (range_with_len a n)
+range_rises a n = λ k within.
+    let fits : k + 1 < n = rw (length-range_with_len a n) at within in
+    rw (get_or-range_with_len a n k 0 (omega (arith, fits)), get_or-range_with_len a n (k + 1) 0 fits) (omega arith)
+
+accepted_rises : (case : Case) → IsStrictlyIncreasing (accepted case)
+accepted_rises case =
+    IsStrictlyIncreasing-filter (λ count. keeps_limit case (row case count)) (listed_of case (tunnel case))
+    (IsStrictlyIncreasing-filter (keeps_margin case) (tunnel case) (range_rises case.least (case.width + 1)))
+
+pub chosen_law : ChosenIsLeast
+chosen_law case = least_is (cost case) (accepted case) (AllPairs-from_increasing (accepted case) (accepted_rises case))

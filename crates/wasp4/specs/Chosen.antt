@@ -2,7 +2,6 @@
 -- Series No. 16). That equality passes at every bound, and the least count is taken among equal costs, is this program's own.
 use Rattle.std.specs.Prelude.{◌≡◌, ◌&&◌, ◌+◌, ◌*◌, ◌≤◌, ℕ, Bool, List, [], ◌∷◌, All, Contains, Option, None, Some, MatchOption, length, nat_le, if◌then◌else◌}
 use Rattle.std.specs.List.{filter, range_with_len}
-use Rattle.std.specs.List.Sorted.{IsStrictlyIncreasing}
 use Rattle.plant_data.specs.declared.row.Row.{Row}
 use Rattle.wasp4.specs.declared.case.Case.{Case}
 use Rattle.wasp4.specs.declared.choose.Best.{Best}
@@ -72,6 +71,6 @@ pub record IsLeast (cost_of : ℕ → ℕ) (xs : List ℕ) (x : ℕ) : Type 0 wh
   pub costs_least : All (λ y. cost_of x ≤ cost_of y) xs
   pub least_of_equals : All (λ y. cost_of y ≡ cost_of x → x ≤ y) xs
 
--- in a rising list the least-cost one is that, and there is none only where the list is empty
-abbrev pub LeastCostIsLeast : Type 0
-LeastCostIsLeast = (cost_of : ℕ → ℕ) (xs : List ℕ) → IsStrictlyIncreasing xs → MatchOption (least_cost cost_of xs) (xs ≡ []) (IsLeast cost_of xs)
+-- the count that is planned is that of the accepted ones, and there is none only where none is accepted
+abbrev pub ChosenIsLeast : Type 0
+ChosenIsLeast = (case : Case) → MatchOption (chosen case) (accepted case ≡ []) (IsLeast (cost case) (accepted case))

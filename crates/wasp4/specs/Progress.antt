@@ -10,7 +10,8 @@ use Rattle.wasp4.specs.declared.status.Ending.{Ending}
 use Rattle.wasp4.specs.declared.status.Ending.TheVariants as endings
 use Rattle.wasp4.specs.declared.status.Turn.{Turn}
 use Rattle.wasp4.specs.declared.status.Turn.TheVariants as turns
-use Rattle.wasp4.specs.Out.{State, onward, outcome_from}
+use Rattle.wasp_io.specs.Causes.{Rose}
+use Rattle.wasp4.specs.Out.{State, onward, outcome_from, usage_text}
 
 abbrev pub status_of : Ending → Status
 status_of endings.Done = statuses.Done
@@ -99,3 +100,8 @@ Answers before now written written' s n statuses.CheckNo = ⊥
 -- what was written is a front of this text
 abbrev pub IsPrefixWritten : Option (List ℕ) → Option (List ℕ) → List ℕ → Type 0
 IsPrefixWritten written written' text = (said : List ℕ) × (more : List ℕ) × Appends written written' said × (text ≡ said ++ more)
+
+-- the usage line was written, or a front of it where the sink failed
+pub record SaysUsage (written written' : Option (List ℕ)) (faults faults' : ℕ) : Type 0 where
+  pub front : IsPrefixWritten written written' usage_text
+  pub whole : (Rose faults faults' → ⊥) → Appends written written' usage_text

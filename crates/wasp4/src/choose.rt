@@ -2,7 +2,7 @@
 ghost use Rattle.std.specs.Prelude.{◌≡◌, ◌+◌, ◌*◌, ◌≤◌, ◌∷◌, ℕ, List, IfOk, Option, Some};
 ghost use Rattle.wasp4.specs.Case.{IsWithinLimits};
 ghost use Rattle.wasp4.specs.Chosen as spec;
-ghost use Rattle.wasp4.specs.Chosen.{IsChoice, LeastCostIsLeast};
+ghost use Rattle.wasp4.specs.Chosen.{ChosenIsLeast, IsChoice};
 ghost use Rattle.wasp4.specs.Cost.{cost_by};
 
 use crate::case::Case;
@@ -110,7 +110,8 @@ pub(crate) fn choose(alloc: Global, case: &Case) -> Result<Choice, OutOfMemory>
     Ok(consider_tunnel(case, &mut load))
 }
 
-/// In a rising list the least-cost count is one of them, none costs less, and each that costs as much is no smaller.
-pub fn least_cost_is_least()
-    ensures { LeastCostIsLeast }
+/// The count that is planned is one of the accepted counts, none of them costs less, and each that costs as
+/// much is no smaller. There is none only where none is accepted.
+pub fn chosen_is_least()
+    ensures { ChosenIsLeast }
 {}

@@ -20,7 +20,7 @@ mod top;
 mod turn;
 mod words;
 
-pub use choose::least_cost_is_least;
+pub use choose::chosen_is_least;
 pub use simulate::flat_load_is_load_curve;
 pub use status::{Ending, Status};
 use std::alloc::Global;

@@ -2,7 +2,7 @@
 ghost use Rattle.std.specs.Prelude.{◌≡◌, ◌↔◌, true, false, IfOk, OnErr, Ok};
 ghost use Rattle.wasp_io.specs.Causes.{HasCause};
 ghost use Rattle.wasp4.specs.Out as spec;
-ghost use Rattle.wasp4.specs.Progress.{Answers, IsPrefixWritten, StopsWithin};
+ghost use Rattle.wasp4.specs.Progress.{Answers, SaysUsage, StopsWithin};
 
 use crate::putting::put_all;
 use crate::script::Script;
@@ -33,14 +33,14 @@ fn read_script<S: Source, K: Sink>(
     let mut script = Script::new(alloc);
     let mut line = Vec::new(alloc);
     let mut text = Vec::new(alloc);
-    for before in 0..LAST_LINE - 1 {
+    for number in 1..LAST_LINE {
         text.clear();
         let turn = turn(
             alloc,
             &mut reader,
             source,
             &mut script,
-            before + 1,
+            number,
             &mut line,
             &mut text,
         )?;
@@ -89,7 +89,9 @@ pub fn run<R: Threads + Sync, S: Source, K: Sink>(
     sink: &mut K,
 ) -> Status
     ensures words { (result ≡ Status.BadWords) ↔ (spec.is_plan words.now ≡ false) }
-    ensures usage { result ≡ Status.BadWords → IsPrefixWritten (K.written sink.old) (K.written sink.new) spec.usage_text }
+    // Then nothing is read, and the usage line is written, or a front of it where the sink failed.
+    ensures unread { result ≡ Status.BadWords → source.new ≡ source.old }
+    ensures usage { result ≡ Status.BadWords → SaysUsage (K.written sink.old) (K.written sink.new) (K.faults sink.old) (K.faults sink.new) }
 
     // The headline: what is written is the text that the lines define.
     ensures answer { spec.is_plan words.now ≡ true → Answers (S.left source.old) (S.left source.new) (K.written sink.old) (K.written sink.new) spec.start 1 result }
