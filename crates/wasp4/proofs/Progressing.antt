@@ -10,11 +10,12 @@ use Rattle.line_reader.specs.Lines.{lines_of, unlines, IsUnbroken}
 use Rattle.wasp4.specs.declared.status.Ending.{Ending}
 use Rattle.wasp4.specs.declared.status.Ending.TheVariants as endings
 use Rattle.wasp4.specs.declared.status.Status.{Status}
+use Rattle.wasp4.specs.declared.status.Status.TheVariants as statuses
 use Rattle.wasp4.specs.declared.status.Turn.{Turn}
 use Rattle.wasp4.specs.declared.status.Turn.TheVariants as turns
 use Rattle.wasp4.specs.Hearing.{by_turn}
 use Rattle.wasp4.specs.Out.{Outcome, State, onward, outcome_from}
-use Rattle.wasp4.specs.Progress.{status_of, LeadsTo, EndsWith, TakesLine, TakesPart, TurnFrom, Advances, Closes, StopsWithin, StopsBetween, Answers}
+use Rattle.wasp4.specs.Progress.{LeadsTo, EndsWith, TakesLine, TakesPart, TurnFrom, Advances, Closes, PutAs, StopsWithin, StopsBetween, Answers}
 use Rattle.wasp4.proofs.Turning.{ended_by}
 use Rattle.wasp4.proofs.Written.{Appends-none, Appends-then}
 
@@ -65,16 +66,6 @@ line_answered a b s t n line said (turns.Over ending) whole taken replied = line
 
 LeadsTo-then : (s t u : State) (n m k : ℕ) (ls js : List (List ℕ)) (xs ys : List ℕ) → LeadsTo s n ls xs t m → LeadsTo t m js ys u k → LeadsTo s n (ls ++ js) (xs ++ ys) u k
 LeadsTo-then s t u n m k ls js xs ys h l more = ap (outcome_from s n) (append_assoc ls js more) ∙ h (js ++ more) ∙ ap (onward xs) (l more) ∙ onward_onward xs ys (outcome_from u k more)
-
--- a turn that goes on
-pub turn_goes : (a b : Option (List ℕ)) (s t : State) (n : ℕ) (text : List ℕ) (turn : Option Turn) (x : Turn) → TurnFrom a b s n t text turn → turn ≡ Some x → x ≡ turns.Goes → TakesLine a b s n t text
-turn_goes a b s t n text turn x h some goes = subst (TurnFrom a b s n t text) (some ∙ ap (λ (y : Turn). Some y) goes) h
-
-pub turn_fails : (a b : Option (List ℕ)) (s t : State) (n : ℕ) (text : List ℕ) (turn : Option Turn) → TurnFrom a b s n t text turn → turn ≡ None → TakesPart a b text
-turn_fails a b s t n text turn h none = subst (TurnFrom a b s n t text) none h
-
-pub turn_ends : (a b : Option (List ℕ)) (s t : State) (n : ℕ) (text : List ℕ) (turn : Option Turn) (x : Turn) (ending : Ending) → TurnFrom a b s n t text turn → turn ≡ Some x → x ≡ turns.Over ending → EndsWith a s n text ending
-turn_ends a b s t n text turn x ending h some over = subst (TurnFrom a b s n t text) (some ∙ ap (λ (y : Turn). Some y) over) h
 
 ahead_none : (left : Option (List ℕ)) (kept : List ℕ) → kept ≡ [] → ahead kept left ≡ left
 ahead_none None kept e = refl
@@ -203,6 +194,19 @@ closes_here a b w v z s t n m text ending so_far e put =
     (known a b s t n m so_far.lines so_far.said so_far.whole so_far.taken so_far.leads (IsOutcome (so_far.said ++ text) ending) (onward_ends b t m so_far.said text ending e))
     (Appends-then w v z so_far.said text so_far.wrote put)
 
-pub closes_as : (a b w v : Option (List ℕ)) (s : State) (n : ℕ) (ending : Ending) (status : Status) → Closes a w v s n ending → status ≡ status_of ending → Answers a b w v s n status
-closes_as a b w v s n endings.Done status closes is = subst (Answers a b w v s n) (sym is) closes
-closes_as a b w v s n endings.Malformed status closes is = subst (Answers a b w v s n) (sym is) closes
+-- how a turn whose text was put ends the run
+ended_put : (a b left w v z : Option (List ℕ)) (kept : List ℕ) (s t u : State) (n m : ℕ) (text : List ℕ) (turn : Option Turn) (status : Status) → Advances a b w v s n t m → TurnFrom b (ahead kept left) t m u text turn → (turn ≡ None → kept ≡ []) → PutAs v z text turn (Some status) → Answers a left w z s n status
+ended_put a b left w v z kept s t u n m text turn statuses.Done so_far turned none put = closes_here a b w v z s t n m text endings.Done so_far (subst (TurnFrom b (ahead kept left) t m u text) put.0 turned) put.1
+ended_put a b left w v z kept s t u n m text turn statuses.Malformed so_far turned none put = closes_here a b w v z s t n m text endings.Malformed so_far (subst (TurnFrom b (ahead kept left) t m u text) put.0 turned) put.1
+ended_put a b left w v z kept s t u n m text turn statuses.ReadFault so_far turned none put = stops_between a b left w v z kept s t n m text so_far (subst (TurnFrom b (ahead kept left) t m u text) put.0 turned) (none put.0) put.1
+ended_put a b left w v z kept s t u n m text turn statuses.WriteFault so_far turned none put = stops_in_turn a b (ahead kept left) w v z s t u n m text turn so_far turned put
+ended_put a b left w v z kept s t u n m text turn statuses.OutOfMemory so_far turned none put = absurd put
+ended_put a b left w v z kept s t u n m text turn statuses.BadWords so_far turned none put = absurd put
+ended_put a b left w v z kept s t u n m text turn statuses.CheckNo so_far turned none put = absurd put
+
+pub answered : (a b left w v z : Option (List ℕ)) (kept : List ℕ) (s t u : State) (n m : ℕ) (text piece : List ℕ) (turn : Option Turn) (status : Status) → Advances a b w v s n t m → TurnFrom b (ahead kept left) t m u text turn → (turn ≡ None → kept ≡ []) → piece ≡ text → PutAs v z piece turn (Some status) → Answers a left w z s n status
+answered a b left w v z kept s t u n m text piece turn status so_far turned none same put = ended_put a b left w v z kept s t u n m text turn status so_far turned none (subst (λ (x : List ℕ). PutAs v z x turn (Some status)) same put)
+
+-- and how it goes on
+pub advanced : (a b c w v z : Option (List ℕ)) (s t u : State) (n m : ℕ) (text : List ℕ) (turn : Option Turn) → Advances a b w v s n t m → TurnFrom b c t m u text turn → PutAs v z text turn None → Advances a c w z s n u (m + 1)
+advanced a b c w v z s t u n m text turn so_far turned put = advance a b c w v z s t u n m text so_far (subst (TurnFrom b c t m u text) put.0 turned) put.1

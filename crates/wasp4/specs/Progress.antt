@@ -97,6 +97,17 @@ Answers before now written written' s n statuses.OutOfMemory = StopsWithin befor
 Answers before now written written' s n statuses.BadWords = ⊥
 Answers before now written written' s n statuses.CheckNo = ⊥
 
+-- what was put of a turn's text, and whether the script goes on behind it
+abbrev pub PutAs : Option (List ℕ) → Option (List ℕ) → List ℕ → Option Turn → Option Status → Type 0
+PutAs written written' text turn None = (turn ≡ Some turns.Goes) × Appends written written' text
+PutAs written written' text turn (Some statuses.Done) = (turn ≡ Some (turns.Over endings.Done)) × Appends written written' text
+PutAs written written' text turn (Some statuses.Malformed) = (turn ≡ Some (turns.Over endings.Malformed)) × Appends written written' text
+PutAs written written' text turn (Some statuses.ReadFault) = (turn ≡ None) × Appends written written' text
+PutAs written written' text turn (Some statuses.WriteFault) = (done : List ℕ) × (rest : List ℕ) × Appends written written' done × (text ≡ done ++ rest)
+PutAs written written' text turn (Some statuses.OutOfMemory) = ⊥
+PutAs written written' text turn (Some statuses.BadWords) = ⊥
+PutAs written written' text turn (Some statuses.CheckNo) = ⊥
+
 -- what was written is a front of this text
 abbrev pub IsPrefixWritten : Option (List ℕ) → Option (List ℕ) → List ℕ → Type 0
 IsPrefixWritten written written' text = (said : List ℕ) × (more : List ℕ) × Appends written written' said × (text ≡ said ++ more)

@@ -1,8 +1,8 @@
 //! The top call.
-ghost use Rattle.std.specs.Prelude.{◌≡◌, ◌↔◌, true, false, IfOk, OnErr, Ok};
+ghost use Rattle.std.specs.Prelude.{◌≡◌, ◌↔◌, true, false, IfOk, OnErr, Ok, Some};
 ghost use Rattle.wasp_io.specs.Causes.{HasCause};
 ghost use Rattle.wasp4.specs.Out as spec;
-ghost use Rattle.wasp4.specs.Progress.{Answers, SaysUsage, StopsWithin};
+ghost use Rattle.wasp4.specs.Progress.{Answers, PutAs, SaysUsage, StopsWithin};
 
 use crate::putting::put_all;
 use crate::script::Script;
@@ -17,6 +17,21 @@ use wasp_io::{Sink, Source};
 
 /// The line that is written where the words of the command line are none of the forms.
 const USAGE: &[u8] = b"USAGE plan [--workers N] | check | trial SEED YEARS CANDIDATES\n";
+
+/// Puts the text of a turn, and says how the run ends, if it does.
+fn put_turn<K: Sink>(sink: &mut K, text: &[u8], turn: Option<Turn>) -> Option<Status>
+    ensures put { PutAs (K.written sink.old) (K.written sink.new) text.now turn result }
+    ensures cause { HasCause (K.faults sink.old) (K.faults sink.new) (result ≡ Some Status.WriteFault) }
+{
+    let Ok(()) = put_all(sink, text) else {
+        return Some(Status::WriteFault);
+    };
+    match turn {
+        Some(Turn::Goes) => None,
+        Some(Turn::Over(ending)) => Some(ending.status()),
+        None => Some(Status::ReadFault),
+    }
+}
 
 /// Reads a script and writes what it is answered with, line by line.
 fn read_script<S: Source, K: Sink>(
@@ -44,13 +59,8 @@ fn read_script<S: Source, K: Sink>(
             &mut line,
             &mut text,
         )?;
-        let Ok(()) = put_all(sink, &text) else {
-            return Ok(Status::WriteFault);
-        };
-        match turn {
-            Some(Turn::Goes) => {}
-            Some(Turn::Over(ending)) => return Ok(ending.status()),
-            None => return Ok(Status::ReadFault),
+        if let Some(status) = put_turn(sink, &text, turn) {
+            return Ok(status);
         }
     }
     text.clear();
@@ -63,13 +73,9 @@ fn read_script<S: Source, K: Sink>(
         &mut line,
         &mut text,
     )?;
-    let Ok(()) = put_all(sink, &text) else {
-        return Ok(Status::WriteFault);
-    };
-    match turn {
-        Some(Turn::Goes) => unreachable!(),
-        Some(Turn::Over(ending)) => Ok(ending.status()),
-        None => Ok(Status::ReadFault),
+    match put_turn(sink, &text, turn) {
+        Some(status) => Ok(status),
+        None => unreachable!(),
     }
 }
 
