@@ -1,4 +1,4 @@
--- What a reader of lines does to the bytes ahead of it, where they are told.
+-- What a reader of lines does to the bytes ahead of it, where they are told. This program's own.
 use Rattle.std.specs.Prelude.{◌≡◌, ℕ, ◌<◌, ◌≤◌, List, [], ◌∷◌, ◌++◌, length, Option, None, Some, IfSome}
 use Rattle.std.specs.Io.KnownBytes.{prepend_known, Keeps, Consumes, IsAtEnd}
 use Rattle.line_reader.specs.declared.bytes.Next.{Next}

@@ -1,4 +1,4 @@
--- Curves as functions of the place on the grid.
+-- Load duration curves and equivalent loads as functions of the place on the grid. The cells are this program's own.
 use Rattle.std.specs.Prelude.{ℕ, ◌-◌, ◌≤◌, nat_lt, List, map, slice_index, sum, if◌then◌else◌}
 use Rattle.std.specs.List.{range_with_len}
 use Rattle.wasp_fixed.specs.declared.numbers.TheConstants.{ONE}

@@ -7,7 +7,7 @@ pub const ONE: u64 = 1_000_000_000;
 /// A rate of one, in parts of an outage rate or of an availability.
 pub const M: u64 = 10_000;
 
-/// `a * b / c`, rounded down, with no overflow on the way.
+/// `a * b / c`, rounded down, with no overflow on the way. `c` is not 0, and the answer is below 2^64.
 pub fn mul_div_floor(a: u64, b: u64, c: u64) -> u64
     requires divisor { c ≢ 0 }
     requires fits { a * b / c < 2 ^ 64 }

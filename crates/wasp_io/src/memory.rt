@@ -1,4 +1,6 @@
 //! A source and a sink in memory, which take and give pieces of a size and fail at numbered calls.
+ghost use Rattle.std.specs.Prelude.{◌≡◌, ◌<◌, ◌≤◌, length, vec_len, vec_capacity};
+
 use crate::{Given, Sink, Source, Taken};
 use std::alloc::Global;
 use wasp_fixed::OutOfMemory;
@@ -16,8 +18,6 @@ pub struct MemSource {
     ghost gives: { 0 < chunk },
     ghost clean: { length fails.items ≡ 0 → faults ≡ 0 },
 }
-
-ghost use Rattle.std.specs.Prelude.{◌≡◌, ◌<◌, ◌≤◌, length, vec_len, vec_capacity};
 
 impl MemSource {
     ghost use Rattle.std.specs.Prelude.{◌==◌, IfOk, Some};
@@ -156,7 +156,7 @@ impl MemSink {
 impl Sink for MemSink {
     ghost use Rattle.std.specs.Prelude.{◌↔◌, ◌⊎◌, ◌==◌, ◌+◌, ◌-◌, ◌^◌, ℕ, Contains, None, Some, min, if◌then◌else◌};
     ghost use Rattle.wasp_io.specs.Causes.{HasCause};
-    ghost use Rattle.wasp_io.specs.Known.{IsGivenWithin, PutsTo};
+    ghost use Rattle.wasp_io.specs.Known.{IsGivenWithin, PutsTo, is_failed};
     ghost use Rattle.wasp_io.specs.Memory.{bytes_written, failing_puts, put_chunk, puts_made, sink_room, sink_is_sure};
     ghost use Rattle.wasp_io.specs.declared.sink.Given.TheVariants as given;
 
@@ -177,9 +177,9 @@ impl Sink for MemSink {
         // A call fails exactly where its number is listed or the room is full.
         ensures numbered { puts_made self.new ≡ min (puts_made self.old + 1) (2 ^ 64 - 1) }
         ensures fails { (result ≡ Given.Failed) ↔ (Contains (failing_puts self.old) (puts_made self.new) ⊎ (length (bytes_written self.old) ≡ sink_room self.old)) }
-        // A call that does not fail takes as much as the chunk and the room allow, and is not counted.
+        // Only a call that fails is counted. One that does not takes as much as the chunk and the room allow.
         ensures amount { (n : ℕ) → result ≡ given.Wrote n → n ≡ min (min (length piece.now) (put_chunk self.old)) (sink_room self.old - length (bytes_written self.old)) }
-        ensures counted { self.new.faults ≡ self.old.faults ⊎ (result ≡ Given.Failed) }
+        ensures counted { self.new.faults ≡ (if is_failed result then min (self.old.faults + 1) (2 ^ 64 - 1) else self.old.faults) }
         ensures list { failing_puts self.new ≡ failing_puts self.old }
         ensures chunk { put_chunk self.new ≡ put_chunk self.old }
         ensures room { sink_room self.new ≡ sink_room self.old }

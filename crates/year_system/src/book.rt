@@ -78,6 +78,7 @@ impl Book {
         // A system that the book has takes no memory.
         ensures err_only_if_new { OnErr result (Contains self.old system → ⊥) }
     {
+        // Its reading tells the proof that the system is one, as each in the book.
         let _step = system.step();
         for id in 0..self.systems.len() {
             if self.systems[id].same(&system) {
@@ -101,6 +102,7 @@ impl Book {
         // No other key has this code.
         ensures only { (c : IsCode self.now result) → (c.id ≡ id) × (c.counts ≡ config.now) }
     {
+        // Its reading tells the proof that the book has at most 2,048 systems.
         let _systems = &self.systems;
         let system = self.get(id);
         id * CONFIGS + index_of(system, config) + 1
@@ -113,6 +115,7 @@ impl Book {
         ensures within { result.0 < length self.now }
         ensures fits { IfSome (slice_get self.now result.0) (λ s. Fits s result.1) }
     {
+        // Its reading tells the proof that the book has at most 2,048 systems.
         let _systems = &self.systems;
         let id = (code - 1) / CONFIGS;
         let system = self.get(id);

@@ -69,7 +69,6 @@ impl YearSystem {
         ensures small { result ≤ 128 }
         ensures valid { IsSystem self.now }
     {
-        let _step = self.step();
         (units(self.existing()) + units(self.thermal())) as usize
     }
 

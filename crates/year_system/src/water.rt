@@ -30,7 +30,6 @@ fn hydro_mw(system: &YearSystem, config: &Config, period: usize) -> u64
 {
     let thermal = system.thermal().len();
     let groups = system.groups();
-    let _weights = system.weights();
     let mut total = 0;
     for k in 0..groups.len() {
         let projects = groups[k].existing + config.get(thermal + k);
@@ -77,7 +76,6 @@ impl YearSystem {
         ensures value { result ≡ capacity self.now config.now period }
         ensures small { result ≤ 2800000 }
     {
-        let _step = self.step();
         full_mw(self.existing()) + candidate_mw(self, config) + hydro_mw(self, config, period)
     }
 }
