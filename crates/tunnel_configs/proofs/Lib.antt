@@ -1,0 +1,5 @@
+mod Boxes
+mod Gathered
+mod Margins
+mod Risings
+mod Sizes
