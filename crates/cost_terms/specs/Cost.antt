@@ -10,6 +10,7 @@ use Rattle.plant_data.specs.declared.row.Row.{Row}
 use Rattle.wasp_fixed.specs.Discounts.{end_factor, mid_factor}
 use Rattle.wasp_fixed.specs.declared.numbers.TheConstants.{ONE}
 use Rattle.cost_terms.specs.CostData.{greatest}
+use Rattle.cost_terms.specs.declared.additions.Horizon.{Horizon}
 use Rattle.cost_terms.specs.declared.additions.Item.{Item}
 use Rattle.cost_terms.specs.declared.prices.CostData.{CostData}
 use Rattle.cost_terms.specs.declared.prices.GroupCost.{GroupCost}
@@ -60,14 +61,22 @@ build c year before after =
     (sum_by domestic (items c before after) * end_factor c.rates.domestic (year - 1)
     + sum_by foreign (items c before after) * end_factor c.rates.foreign (year - 1)) / ONE
 
+-- the horizon as a year sees it: the years from its beginning to the end of the last year, and the worth of
+-- ONE then
+abbrev pub horizon : CostData → ℕ → Horizon
+horizon c year =
+    record {
+      ahead = c.years - year + 1;
+      domestic = end_factor c.rates.domestic c.years;
+      foreign = end_factor c.rates.foreign c.years;
+    }
+
 -- salvage of an item: the part of its life that lies behind the horizon, by straight line
-abbrev pub item_salvage : CostData → ℕ → Item → ℕ
-item_salvage c year i =
-    (domestic i * end_factor c.rates.domestic c.years + foreign i * end_factor c.rates.foreign c.years)
-    * (i.life - (c.years - year + 1)) / (i.life * ONE)
+abbrev pub item_salvage : Horizon → Item → ℕ
+item_salvage h i = (domestic i * h.domestic + foreign i * h.foreign) * (i.life - h.ahead) / (i.life * ONE)
 
 abbrev pub salvage : CostData → ℕ → List ℕ → List ℕ → ℕ
-salvage c year before after = sum_by (item_salvage c year) (items c before after)
+salvage c year before after = sum_by (item_salvage (horizon c year)) (items c before after)
 
 -- the fuel inventory of an item, in dollars
 abbrev pub inventory : Item → ℕ
@@ -92,9 +101,12 @@ plants_fixed c year = sum_by (λ p. slice_index p.units (year - 1) * p.full * p.
 abbrev pub thermal_fixed : CostData → List ℕ → ℕ
 thermal_fixed c counts = sum_by (λ e. e.1 * e.0.full * e.0.fixed) (zip c.thermal counts)
 
+abbrev pub projects_mw : GroupCost → ℕ → ℕ
+projects_mw g count = sum_by (λ p. p.capacity) (take (g.existing + count) g.projects)
+
 abbrev pub groups_fixed : CostData → List ℕ → ℕ
 groups_fixed c counts =
-    sum_by (λ e. sum_by (λ p. p.capacity) (take (e.0.existing + e.1) e.0.projects) * e.0.fixed) (zip c.groups (drop (length c.thermal) counts))
+    sum_by (λ e. projects_mw e.0 e.1 * e.0.fixed) (zip c.groups (drop (length c.thermal) counts))
 
 -- upkeep: twelve months of fixed cost, and the row's variable cost, in the middle of the year
 abbrev pub upkeep : CostData → ℕ → List ℕ → Row → ℕ
@@ -106,17 +118,21 @@ upkeep c year counts row =
 abbrev pub shortage_cost : ShortagePrice → ℕ → ℕ → ℕ
 shortage_cost s demand short =
     if nat_eq demand 0 then short * s.plain else
-    short * (s.plain * demand * demand + s.linear * demand * min short demand + s.square * min short demand * min short demand) / (demand * demand)
+    short * (s.plain * (demand * demand) + s.linear * (demand * min short demand) + s.square * (min short demand * min short demand)) / (demand * demand)
 
 -- energy not served under each hydro condition
 abbrev pub shorts : Row → List ℕ
 shorts row = row.short1 ∷ row.short2 ∷ row.short3 ∷ row.short4 ∷ row.short5 ∷ []
 
+-- the same weighted over the conditions
+abbrev pub weighted_cents : CostData → ℕ → List ℕ → ℕ
+weighted_cents c demand each = sum_by (λ e. e.0 * shortage_cost c.shortage demand e.1) (zip c.weights each) / 10000
+
 -- energy not served in cents: at the plain price in version 1, and weighted over the conditions in version 2
 abbrev pub unserved_cents : CostData → ℕ → Row → ℕ
 unserved_cents c year row =
     if nat_eq c.version 1 then row.unserved * c.shortage.plain else
-    sum_by (λ e. e.0 * shortage_cost c.shortage (slice_index c.demand (year - 1)) e.1) (zip c.weights (shorts row)) / 10000
+    weighted_cents c (slice_index c.demand (year - 1)) (shorts row)
 
 -- energy not served, in the middle of the year
 abbrev pub unserved : CostData → ℕ → Row → ℕ

@@ -2,7 +2,9 @@
 ghost use Rattle.std.specs.Prelude.{◌≡◌, ◌≤◌, length};
 ghost use Rattle.cost_terms.specs.Cost.{nothing_built};
 ghost use Rattle.cost_terms.specs.CostData.{Fits, IsEconomy, greatest};
+ghost use Rattle.cost_terms.specs.Factors.{AreFactors};
 
+use crate::factors::{Factors, factors_of};
 use crate::prices::CostData;
 use plant_data::Config;
 use std::marker::Model;
@@ -11,17 +13,20 @@ use std::marker::Model;
 #[derive(Debug, Drop)]
 pub struct Economy {
     costs: CostData,
+    /// Made once, since each cost of an addition or a row takes some.
+    factors: Factors,
 }
 
 impl Model for Economy {
     ghost use Rattle.cost_terms.specs.declared.prices.CostData.{CostData};
     ghost use Rattle.cost_terms.specs.CostData.{IsEconomy};
+    ghost use Rattle.cost_terms.specs.Factors.{AreFactors};
 
     ghost Value = { CostData };
 
     ghost view = { λ e. e.costs };
 
-    ghost invariant = { λ e. IsEconomy e.costs };
+    ghost invariant = { λ e. IsEconomy e.costs × AreFactors e.costs e.factors };
 }
 
 impl Economy {
@@ -30,7 +35,8 @@ impl Economy {
         requires { IsEconomy costs }
         ensures { result ≡ costs }
     {
-        Economy { costs }
+        let factors = factors_of(&costs);
+        Economy { costs, factors }
     }
 
     /// The data.
@@ -39,6 +45,13 @@ impl Economy {
         ensures valid { IsEconomy self.now }
     {
         &self.costs
+    }
+
+    /// The discount factors.
+    pub(crate) fn factors(&self) -> &Factors
+        ensures { AreFactors self.now result.now }
+    {
+        &self.factors
     }
 
     /// The years, 1 to 30.

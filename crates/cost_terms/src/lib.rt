@@ -4,7 +4,9 @@
 mod additions;
 mod economy;
 mod entries;
+mod factors;
 mod prices;
+mod running;
 mod terms;
 
 pub use economy::Economy;
