@@ -53,6 +53,7 @@ pub struct Totals {
 }
 
 /// The salvage of an item with these investments, which outlives the horizon by `rest` of its years.
+#[tactic(auto, using(crate::proofs::Amounts::worth_most, crate::proofs::Amounts::part_le))]
 fn salvage_of(item: &Item, horizon: &Horizon) -> u64
     requires item { IsItem item.now }
     requires horizon { IsHorizon horizon.now }
@@ -70,6 +71,7 @@ fn salvage_of(item: &Item, horizon: &Horizon) -> u64
 
 impl Totals {
     /// The sums with one more item.
+    #[tactic(auto, using(crate::proofs::Amounts::per_mw))]
     fn add(&self, item: &Item, horizon: &Horizon) -> Totals
         requires item { IsItem item.now }
         requires horizon { IsHorizon horizon.now }

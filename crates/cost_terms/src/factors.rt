@@ -26,6 +26,7 @@ pub struct Factors {
 }
 
 /// The worth of `ONE` at the end of each number of years.
+#[tactic(auto, using(crate::proofs::Columns::column_more))]
 fn end_column(rate: u64) -> Column
     requires { rate ≤ 10000 }
     ensures { IsColumn (end_factor rate) result }
@@ -38,6 +39,7 @@ fn end_column(rate: u64) -> Column
 }
 
 /// The worth of `ONE` in the middle of the year after each number of years.
+#[tactic(auto, using(crate::proofs::Columns::column_more))]
 fn middle_column(rate: u64) -> Column
     requires { rate ≤ 10000 }
     ensures { IsColumn (mid_factor rate) result }
@@ -50,6 +52,7 @@ fn middle_column(rate: u64) -> Column
 }
 
 /// The same of what costs more each year, by the rate `escalation`.
+#[tactic(auto, using(crate::proofs::Columns::column_more, crate::proofs::FactorBounds::escalated_most, crate::proofs::FactorBounds::fuel_most), unfolding(crate::specs::Cost::escalated))]
 fn fuel_column(rate: u64, escalation: u64) -> Column
     requires rate { rate ≤ 10000 }
     requires escalation { escalation ≤ 1000 }

@@ -81,6 +81,7 @@ pub fn fixed_of(costs: &CostData, year: u64, config: &Config) -> u64
 }
 
 /// What so many MWh not served cost in a year with a demand, in cents.
+#[tactic(auto, using(crate::proofs::Amounts::scaled_most, crate::proofs::Amounts::priced_most))]
 fn shortage_cost(price: &ShortagePrice, demand: u64, short: u64) -> u64
     requires plain { price.now.plain ≤ 10000000 }
     requires linear { price.now.linear ≤ 10000000 }
