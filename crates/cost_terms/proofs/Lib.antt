@@ -1,0 +1,4 @@
+pub mod Amounts
+pub mod Columns
+pub mod FactorBounds
+pub mod Steps

@@ -1,0 +1,5 @@
+pub mod Chosen
+pub mod CostToCome
+pub mod Plans
+pub mod Steps
+pub mod Ways

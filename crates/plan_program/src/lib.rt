@@ -1,0 +1,22 @@
+//! The least-cost plan of a case by dynamic programming.
+//!
+//! This is the module DYNPRO of the IAEA's Computer Manual Series No. 16. It stands on `cost_terms` for the
+//! table of a case and the terms of a year's cost. The contract that the layers above use: `solve` answers
+//! for each accepted configuration of each year its cost-to-come, the least cost of all admissible plans that
+//! end in it, and the admissible plan of all years that none costs less than; among equals the one with the
+//! least last configuration, then the least before it, and so on backwards. Where there is no plan it answers
+//! the first year that none reaches.
+//!
+//! The definitions speak of whole plans as lists. Costs are in dollars of present worth at the beginning of
+//! year 1, below 10^18. The time grows with the product of the numbers of entries of neighbouring years.
+#![tactic(auto)]
+
+mod come;
+mod solve;
+mod solved;
+#[cfg(test)]
+mod tests;
+mod trace;
+
+pub use solve::solve;
+pub use solved::{CostToCome, Outcome, Plan, Solved};
