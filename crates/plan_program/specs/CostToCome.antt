@@ -9,7 +9,7 @@ use Rattle.plan_program.specs.Plans.{IsAdmissible, entry_at, layer_at}
 -- a plan of so many years that ends in an entry
 pub record IsPlanTo (t : Table) (years : ℕ) (e : Scored) (plan : List Scored) : Type 0 where
   pub admissible : IsAdmissible t plan
-  pub years : length plan ≡ years
+  pub long : length plan ≡ years
   pub some : 1 ≤ years
   pub ends : entry_at plan (years - 1) ≡ e
 

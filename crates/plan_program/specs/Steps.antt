@@ -1,6 +1,6 @@
 -- One year's step of the dynamic program: from what is reached before it to the costs-to-come of its entries.
 -- Costs of a year below 2 * 10^16 keep all sums of 30 years below 10^18.
-use Rattle.std.specs.Prelude.{◌≡◌, ℕ, ◌+◌, ◌-◌, ◌*◌, ◌^◌, ◌<◌, ◌≤◌, List, [], length, slice_index_or, Option, Some, None, min}
+use Rattle.std.specs.Prelude.{◌≡◌, ℕ, ◌+◌, ◌-◌, ◌*◌, ◌^◌, ◌<◌, ◌≤◌, List, [], length, slice_index_or, Option, Some, None, min, ◌⊎◌}
 use Rattle.std.specs.Bool.{⊤}
 use Rattle.cost_terms.specs.Cost.{build, fuel, salvage, step_cost, stock, unserved, upkeep}
 use Rattle.cost_terms.specs.CostData.{Fits}
@@ -146,3 +146,9 @@ abbrev pub IsLess : Option ℕ → Option ℕ → Type 0
 IsLess None least = ⊥
 IsLess (Some cost) None = ⊤
 IsLess (Some cost) (Some least) = cost < least
+
+-- the least cost so far with one more way, where the configuration can come that way
+abbrev pub IsWithWay : CostData → ℕ → Reached → List ℕ → Option ℕ → Option ℕ → Type 0
+IsWithWay c year from config least new =
+    (IsAtMost from.config config × (new ≡ Some (lesser_of least (from.cost + built c year from.config config))))
+    ⊎ ((IsAtMost from.config config → ⊥) × (new ≡ least))

@@ -1,10 +1,10 @@
 //! The costs-to-come, year by year.
-ghost use Rattle.std.specs.Prelude.{◌≡◌, ℕ, ◌+◌, ◌-◌, ◌*◌, ◌^◌, ◌<◌, ◌≤◌, IfOk, All, Option, length, slice_index_or, None};
+ghost use Rattle.std.specs.Prelude.{◌≡◌, ℕ, ◌+◌, ◌-◌, ◌*◌, ◌^◌, ◌<◌, ◌≤◌, ◌++◌, [], ◌∷◌, IfOk, OnOk, IfSome, All, Option, length, slice_index_or, Some, None};
 ghost use Rattle.cost_terms.specs.CostData.{Fits};
 ghost use Rattle.cost_terms.specs.Table.{IsEntry};
 ghost use Rattle.plan_program.specs.CostToCome.{come_at};
 ghost use Rattle.plan_program.specs.Plans.{entry_at};
-ghost use Rattle.plan_program.specs.Steps.{AreNumbered, AreWayCosts, IsLeastFrom, IsRaised, lesser_of, reached_at};
+ghost use Rattle.plan_program.specs.Steps.{AreNumbered, AreWayCosts, IsLeastFrom, IsRaised, IsWithWay, reached_at};
 
 use cost_terms::{CaseTable, Economy, Scored, build_cost, run_cost};
 use crate::solved::CostToCome;
@@ -19,13 +19,31 @@ pub struct Reached {
     pub cost: u64,
 }
 
-/// The lesser of two costs, the first of which may be wanting.
-fn lesser(least: Option<u64>, cost: u64) -> u64
-    ensures { result ≡ lesser_of least cost }
+/// The least cost so far of coming to a configuration, with the way from one more that is reached.
+fn with_way(
+    economy: &Economy,
+    year: u64,
+    from: &Reached,
+    config: &Config,
+    least: Option<u64>,
+) -> Option<u64>
+    requires first { 1 ≤ year }
+    requires last { year ≤ economy.now.years }
+    requires limit { year ≤ 30 }
+    requires fits { Fits economy.now config.now }
+    requires from { Fits economy.now from.now.config }
+    requires cost { from.now.cost ≤ (year - 1) * (2 * 10 ^ 16) }
+    requires least { IfSome least (λ cost. cost ≤ (year - 1) * (2 * 10 ^ 16) + 10 ^ 16) }
+    ensures value { IsWithWay economy.now year from.now config.now least result }
+    ensures small { IfSome result (λ cost. cost ≤ (year - 1) * (2 * 10 ^ 16) + 10 ^ 16) }
 {
+    if !from.config.at_most(config) {
+        return least;
+    }
+    let cost = from.cost + build_cost(economy, year, &from.config, config).net();
     match least {
-        Some(other) => other.min(cost),
-        None => cost,
+        Some(other) => Some(other.min(cost)),
+        None => Some(cost),
     }
 }
 
@@ -34,17 +52,16 @@ fn lesser(least: Option<u64>, cost: u64) -> u64
 fn least_from(economy: &Economy, year: u64, reached: &[Reached], config: &Config) -> Option<u64>
     requires first { 1 ≤ year }
     requires last { year ≤ economy.now.years }
+    requires limit { year ≤ 30 }
     requires fits { Fits economy.now config.now }
     requires reached { (i : ℕ) → i < length reached.now → Fits economy.now (reached_at reached.now i).config }
-    requires small { (i : ℕ) → i < length reached.now → (reached_at reached.now i).cost ≤ 30 * (2 * 10 ^ 16) }
-    ensures { IsLeastFrom economy.now year reached.now (length reached.now) config.now result }
+    requires small { (i : ℕ) → i < length reached.now → (reached_at reached.now i).cost ≤ (year - 1) * (2 * 10 ^ 16) }
+    ensures least { IsLeastFrom economy.now year reached.now (length reached.now) config.now result }
+    ensures small { IfSome result (λ cost. cost ≤ (year - 1) * (2 * 10 ^ 16) + 10 ^ 16) }
 {
     let mut least = None;
     for from in reached {
-        if from.config.at_most(config) {
-            let built = build_cost(economy, year, &from.config, config);
-            least = Some(lesser(least, from.cost + built.net()));
-        }
+        least = with_way(economy, year, from, config, least);
     }
     least
 }
@@ -53,10 +70,12 @@ fn least_from(economy: &Economy, year: u64, reached: &[Reached], config: &Config
 fn cost_to_come(economy: &Economy, year: u64, reached: &[Reached], entry: &Scored) -> Option<u64>
     requires first { 1 ≤ year }
     requires last { year ≤ economy.now.years }
+    requires limit { year ≤ 30 }
     requires entry { IsEntry economy.now entry.now }
     requires fits { (i : ℕ) → i < length reached.now → Fits economy.now (reached_at reached.now i).config }
-    requires small { (i : ℕ) → i < length reached.now → (reached_at reached.now i).cost ≤ 29 * (2 * 10 ^ 16) }
-    ensures { IsRaised economy.now year reached.now entry.now result }
+    requires small { (i : ℕ) → i < length reached.now → (reached_at reached.now i).cost ≤ (year - 1) * (2 * 10 ^ 16) }
+    ensures value { IsRaised economy.now year reached.now entry.now result }
+    ensures small { IfSome result (λ cost. cost ≤ year * (2 * 10 ^ 16)) }
 {
     let least = least_from(economy, year, reached, &entry.config)?;
     let ran = run_cost(economy, year, &entry.config, &entry.row);
@@ -73,17 +92,35 @@ fn year_costs(
 ) -> Result<Vec<Option<u64>>, AllocError>
     requires first { 1 ≤ year }
     requires last { year ≤ economy.now.years }
+    requires limit { year ≤ 30 }
     requires entries { All (IsEntry economy.now) layer.now }
     requires fits { (i : ℕ) → i < length reached.now → Fits economy.now (reached_at reached.now i).config }
-    requires small { (i : ℕ) → i < length reached.now → (reached_at reached.now i).cost ≤ 29 * (2 * 10 ^ 16) }
+    requires small { (i : ℕ) → i < length reached.now → (reached_at reached.now i).cost ≤ (year - 1) * (2 * 10 ^ 16) }
     ensures entries { IfOk result (λ come. length come.items ≡ length layer.now) }
     ensures each { IfOk result (λ come. (i : ℕ) → i < length layer.now → IsRaised economy.now year reached.now (entry_at layer.now i) (slice_index_or come.items i None)) }
+    ensures small { IfOk result (λ come. (i cost : ℕ) → slice_index_or come.items i None ≡ Some cost → cost ≤ year * (2 * 10 ^ 16)) }
 {
-    let mut come = Vec::with_capacity_in(layer.len(), alloc)?;
+    let mut come = Vec::with_capacity(alloc, layer.len())?;
     for entry in layer {
         come.push(cost_to_come(economy, year, reached, entry))?;
     }
     Ok(come)
+}
+
+/// Adds a configuration to those reached, where it has a cost-to-come.
+fn add_numbered(
+    config: Config,
+    come: Option<u64>,
+    reached: &mut Vec<Reached>,
+) -> Result<(), AllocError>
+    ensures some { (cost : ℕ) → come ≡ Some cost → OnOk result (reached.new.items ≡ reached.old.items ++ record { config = config; cost = cost } ∷ []) }
+    ensures none { come ≡ None → OnOk result (reached.new.items ≡ reached.old.items) }
+{
+    let Some(cost) = come else {
+        return Ok(());
+    };
+    reached.push(Reached { config, cost })?;
+    Ok(())
 }
 
 /// The entries of a year that have a cost-to-come, with it.
@@ -97,12 +134,7 @@ fn numbered(
 {
     let mut reached = Vec::new(alloc);
     for i in 0..layer.len() {
-        if let Some(cost) = come[i] {
-            reached.push(Reached {
-                config: layer[i].config,
-                cost,
-            })?;
-        }
+        add_numbered(layer[i].config, come[i], &mut reached)?;
     }
     Ok(reached)
 }

@@ -12,11 +12,11 @@
 #![tactic(auto)]
 
 mod come;
-mod solve;
 mod solved;
+mod solving;
 #[cfg(test)]
 mod tests;
 mod trace;
 
-pub use solve::solve;
 pub use solved::{CostToCome, Outcome, Plan, Solved};
+pub use solving::solve;

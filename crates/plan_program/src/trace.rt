@@ -1,6 +1,6 @@
 //! The chosen plan, from its last year back.
 ghost use Rattle.std.specs.Prelude.{◌≡◌, ℕ, ◌+◌, ◌-◌, ◌^◌, ◌<◌, ◌≤◌, ◌↔◌, [], IfSome, IfOk, OnOk, IsTrue, All, length, slice_index_or, Some, None, Option};
-ghost use Rattle.cost_terms.specs.Table.{IsEntry};
+ghost use Rattle.cost_terms.specs.Table.{IsEntry, IsTable, Rises};
 ghost use Rattle.plan_program.specs.CostToCome.{come_at};
 ghost use Rattle.plan_program.specs.Plans.{entry_at, layer_at};
 ghost use Rattle.plan_program.specs.Steps.{AreWayCosts, HasLead, IsBefore, LeadsTo, running};
@@ -69,6 +69,25 @@ fn predecessor(
     unreachable!()
 }
 
+/// The layer of a year, counted from 0.
+pub fn layer_of(table: &CaseTable, year: usize) -> &[Scored]
+    requires { year < length table.now.layers }
+    ensures value { result.now ≡ layer_at table.now year }
+    ensures entries { All (IsEntry table.now.economy) result.now }
+    ensures rises { Rises result.now }
+    ensures valid { IsTable table.now }
+{
+    table.layers()[year].entries()
+}
+
+/// The costs-to-come of a year, counted from 0.
+pub fn costs_of(come: &[Listed<Option<u64>>], year: usize) -> &[Option<u64>]
+    requires { year < length come.now }
+    ensures { result.now ≡ slice_index_or come.now year [] }
+{
+    come[year].as_slice()
+}
+
 /// The place of the entry from which the best plan comes to the entry at a place of a year's layer, years and
 /// places counted from 0.
 fn find_before(
@@ -84,13 +103,12 @@ fn find_before(
     requires some { come_at come.now year place ≡ None → ⊥ }
     ensures { IsBefore table.now come.now year place result }
 {
-    let layers = table.layers();
-    let layer = layers[year - 1].entries();
-    let entry = &layers[year].entries()[place];
-    let Some(cost) = come[year].as_slice()[place] else {
+    let entry = &layer_of(table, year)[place];
+    let Some(cost) = costs_of(come, year)[place] else {
         unreachable!()
     };
-    let before = come[year - 1].as_slice();
+    let layer = layer_of(table, year - 1);
+    let before = costs_of(come, year - 1);
     predecessor(table.economy(), year as u64 + 1, layer, before, entry, cost)
 }
 
@@ -110,7 +128,7 @@ pub fn push_best(
     requires empty { configs.old.items ≡ [] }
     ensures { OnOk result (TellsBest table.now year (entry_at (layer_at table.now year) place) configs.new.items) }
 {
-    let entry = table.layers()[year].entries()[place];
+    let entry = layer_of(table, year)[place];
     if year > 0 {
         let before = find_before(table, come, year, place);
         push_best(table, come, year - 1, before, configs)?;

@@ -6,7 +6,7 @@ ghost use Rattle.plan_program.specs.Steps.{AreWayCosts, HasNumber, IsLeastPlace,
 
 use crate::come::costs_to_come;
 use crate::solved::{Outcome, Solved};
-use crate::trace::push_best;
+use crate::trace::{costs_of, push_best};
 use cost_terms::CaseTable;
 use plant_data::Listed;
 use std::alloc::{AllocError, Global};
@@ -48,18 +48,28 @@ fn is_less(cost: Option<u64>, least: Option<u64>) -> bool
     }
 }
 
+/// The place of the lesser of two costs-to-come, the first place on a tie.
+fn lesser_place(come: &[Option<u64>], place: usize, other: usize) -> usize
+    requires place { place < length come.now }
+    requires other { other < length come.now }
+    ensures within { result < length come.now }
+    ensures less { IsLess (slice_index_or come.now other None) (slice_index_or come.now place None) → result ≡ other }
+    ensures same { (IsLess (slice_index_or come.now other None) (slice_index_or come.now place None) → ⊥) → result ≡ place }
+{
+    if is_less(come[other], come[place]) {
+        return other;
+    }
+    place
+}
+
 /// The place of the least cost-to-come of a year, the first of these.
 fn least_place(come: &[Option<u64>]) -> usize
     requires { HasNumber come.now }
     ensures { (cost : ℕ) × IsLeastPlace come.now (length come.now) result cost }
 {
     let mut place = 0;
-    let mut least = None;
     for i in 0..come.len() {
-        if is_less(come[i], least) {
-            place = i;
-            least = come[i];
-        }
+        place = lesser_place(come, place, i);
     }
     place
 }
@@ -78,7 +88,7 @@ fn outcome_of(
         return Ok(Outcome::Infeasible(year as u64 + 1));
     }
     let last = come.len() - 1;
-    let costs = come[last].as_slice();
+    let costs = costs_of(come, last);
     let place = least_place(costs);
     let Some(total) = costs[place] else {
         unreachable!()

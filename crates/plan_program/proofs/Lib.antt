@@ -1,0 +1,5 @@
+mod Best
+mod Forward
+mod Least
+mod Orders
+mod Ways
