@@ -1,13 +1,15 @@
 //! The terms of a year's cost.
 ghost use Rattle.std.specs.Prelude.{◌≡◌, ◌+◌, ◌-◌, ◌*◌, ◌/◌, ◌^◌, ◌<◌, ◌≤◌};
 ghost use Rattle.plant_data.specs.Configs.{IsAtMost};
-ghost use Rattle.cost_terms.specs.Cost.{build, fuel, horizon, salvage, stock, unserved, upkeep};
+ghost use Rattle.cost_terms.specs.Cost.{build, fuel, horizon, salvage, step_cost, stock, unserved, upkeep};
 ghost use Rattle.cost_terms.specs.CostData.{Fits, IsEconomy, IsRow};
 ghost use Rattle.cost_terms.specs.Factors.{AreFactors};
+ghost use Rattle.cost_terms.specs.Table.{IsEntry};
 ghost use Rattle.cost_terms.specs.Totals.{IsHorizon};
 
 use crate::additions::{Horizon, year_totals};
 use crate::economy::Economy;
+use crate::entries::Scored;
 use crate::factors::Factors;
 use crate::prices::CostData;
 use crate::running::{fixed_of, unserved_cents};
@@ -167,4 +169,21 @@ pub fn run_cost(economy: &Economy, year: u64, config: &Config, row: &Row) -> Ran
     ensures small { result.fuel + result.upkeep + result.unserved ≤ 10 ^ 16 }
 {
     run_terms(economy.costs(), economy.factors(), year, config, row)
+}
+
+/// The cost of a year, counted from 1, in dollars of present worth at the beginning of year 1, from the
+/// counts before it to a configuration with its row. It takes no memory and never refuses. Thirty such costs
+/// are below 10^18.
+pub fn step_cost(economy: &Economy, year: u64, before: &Config, after: &Scored) -> u64
+    requires first { 1 ≤ year }
+    requires last { year ≤ economy.now.years }
+    requires before { Fits economy.now before.now }
+    requires after { IsEntry economy.now after.now }
+    requires grows { IsAtMost before.now after.now.config }
+    ensures value { result ≡ step_cost economy.now year before.now after.now.config after.now.row }
+    ensures small { result ≤ 2 * 10 ^ 16 }
+{
+    let built = build_cost(economy, year, before, &after.config);
+    let ran = run_cost(economy, year, &after.config, &after.row);
+    built.net() + ran.total()
 }
