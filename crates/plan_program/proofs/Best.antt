@@ -136,7 +136,7 @@ chosen_way : (t : Table) (k : ℕ) (e d : Scored) (ds : List Scored) (come : Lis
 chosen_way t k e d ds come i cost c =
     (omega (arith, c.least.way.0, c.least.long, c.long), subst (λ n. Contains (layer_at t n) e) (c.least.long ∙ omega (arith, c.long)) c.least.way.1, c.leads.grows, c.best.way)
 
-some_one : (a b : ℕ) (o : Option ℕ) → o ≡ Some a → o ≡ Some b → a ≡ b
+pub some_one : (a b : ℕ) (o : Option ℕ) → o ≡ Some a → o ≡ Some b → a ≡ b
 some_one a b o e f = ap (λ (x : Option ℕ). unwrap_or x 0) (sym e ∙ f)
 
 -- no other way is better, by the place of the entry that it passes

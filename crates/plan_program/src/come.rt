@@ -1,7 +1,7 @@
 //! The costs-to-come, year by year.
 ghost use Rattle.std.specs.Prelude.{◌≡◌, ℕ, ◌+◌, ◌-◌, ◌*◌, ◌^◌, ◌<◌, ◌≤◌, ◌++◌, [], ◌∷◌, IfOk, OnOk, IfSome, All, Option, length, slice_index_or, Some, None};
 ghost use Rattle.cost_terms.specs.CostData.{Fits};
-ghost use Rattle.cost_terms.specs.Table.{IsEntry};
+ghost use Rattle.cost_terms.specs.Table.{IsEntry, IsTable};
 ghost use Rattle.plan_program.specs.CostToCome.{come_at};
 ghost use Rattle.plan_program.specs.Plans.{entry_at};
 ghost use Rattle.plan_program.specs.Steps.{AreNumbered, AreWayCosts, IsLeastFrom, IsRaised, IsWithWay, reached_at};
@@ -141,7 +141,8 @@ fn numbered(
 
 /// The costs-to-come of all years.
 pub fn costs_to_come(alloc: Global, table: &CaseTable) -> Result<CostToCome, AllocError>
-    ensures { IfOk result (λ come. AreWayCosts table.now (length table.now.layers) come) }
+    ensures value { IfOk result (λ come. AreWayCosts table.now (length table.now.layers) come) }
+    ensures valid { IsTable table.now }
 {
     let economy = table.economy();
     let layers = table.layers();

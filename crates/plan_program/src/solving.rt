@@ -1,5 +1,6 @@
 //! The solution of a case's table.
 ghost use Rattle.std.specs.Prelude.{◌≡◌, ℕ, ◌+◌, ◌-◌, ◌<◌, ◌≤◌, ◌↔◌, IfOk, IfSome, IsTrue, [], None, length, slice_index_or};
+ghost use Rattle.cost_terms.specs.Table.{IsTable};
 ghost use Rattle.plan_program.specs.Chosen.{IsOutcome};
 ghost use Rattle.plan_program.specs.CostToCome.{AreCostsToCome, AreSmall};
 ghost use Rattle.plan_program.specs.Steps.{AreWayCosts, HasNumber, IsLeastPlace, IsLess, IsUnreached};
@@ -81,7 +82,7 @@ fn outcome_of(
     come: &[Listed<Option<u64>>],
 ) -> Result<Outcome, AllocError>
     requires come { AreWayCosts table.now (length table.now.layers) come.now }
-    requires years { 1 ≤ length table.now.layers }
+    requires valid { IsTable table.now }
     ensures { IfOk result (λ outcome. IsOutcome table.now outcome) }
 {
     if let Some(year) = first_unreached(come) {
@@ -101,6 +102,7 @@ fn outcome_of(
     })
 }
 
+#[tactic(auto, using(crate::proofs::Best::come_is))]
 /// The costs-to-come of a case and its chosen plan: the least-cost admissible plan of all years, among equals
 /// the one with the least last configuration, then the least before it, and so on backwards; or the first
 /// year that no admissible plan reaches.
@@ -109,7 +111,6 @@ pub fn solve(alloc: Global, table: &CaseTable) -> Result<Solved, OutOfMemory>
     ensures outcome { IfOk result (λ s. IsOutcome table.now s.outcome) }
     ensures small { IfOk result (λ s. AreSmall s.come) }
 {
-    let years = table.economy().years();
     let come = costs_to_come(alloc, table)?;
     let outcome = outcome_of(alloc, table, come.as_slice())?;
     Ok(Solved { come, outcome })

@@ -112,6 +112,7 @@ fn find_before(
     predecessor(table.economy(), year as u64 + 1, layer, before, entry, cost)
 }
 
+#[tactic(auto, using(crate::proofs::Best::told_first, crate::proofs::Best::before_some))]
 /// Appends the configurations of the best plan that ends in the entry at a place of a year's layer, both
 /// counted from 0: the one of least cost, and of these the least by the configurations from the last back.
 pub fn push_best(
@@ -129,10 +130,12 @@ pub fn push_best(
     ensures { OnOk result (TellsBest table.now year (entry_at (layer_at table.now year) place) configs.new.items) }
 {
     let entry = layer_of(table, year)[place];
-    if year > 0 {
-        let before = find_before(table, come, year, place);
-        push_best(table, come, year - 1, before, configs)?;
+    if year == 0 {
+        configs.push(entry.config)?;
+        return Ok(());
     }
+    let before = find_before(table, come, year, place);
+    push_best(table, come, year - 1, before, configs)?;
     configs.push(entry.config)?;
     Ok(())
 }
