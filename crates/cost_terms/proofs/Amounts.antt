@@ -1,9 +1,9 @@
 -- Bounds of products and quotients of money.
-use Rattle.std.proofs.Common.{◌≡◌, ℕ, ◌+◌, ◌-◌, ◌*◌, ◌/◌, ◌<◌, ◌≤◌, arith}
-use Rattle.std.proofs.Math.Nat.{add-mul, div-le_of_le-mul, div-mul-le_self, le_of_mul-le-mul_right, mul-le-mul, mul-le-mul_left, mul-le-mul_right}
+use Rattle.std.proofs.Common.{ℕ, ◌+◌, ◌-◌, ◌*◌, ◌/◌, ◌≤◌, arith}
+use Rattle.std.proofs.Math.Nat.{div-le_of_le-mul, div-mul-le_self, le_of_mul-le-mul_right, mul-le-mul, mul-le-mul_left, mul-le-mul_right}
 use Rattle.std.proofs.lemmas.Nat.{le-div}
 use Rattle.wasp_fixed.specs.declared.numbers.TheConstants.{ONE}
-use Rattle.cost_terms.specs.Cost.{domestic, foreign, inventory, item_salvage}
+use Rattle.cost_terms.specs.Cost.{domestic, foreign}
 use Rattle.cost_terms.specs.Totals.{IsHorizon, IsItem}
 use Rattle.cost_terms.specs.declared.additions.Horizon.{Horizon}
 use Rattle.cost_terms.specs.declared.additions.Item.{Item}

@@ -1,11 +1,10 @@
 -- Steps of the loops over candidates.
-use Rattle.std.proofs.Common.{◌≡◌, ℕ, ◌+◌, ◌-◌, ◌*◌, ◌<◌, ◌≤◌, ◌++◌, List, [], ◌∷◌, length, map, sum, sum_by, take, drop, get_or, ap, sym, ◌∙◌, arith}
+use Rattle.std.proofs.Common.{◌≡◌, ℕ, ◌+◌, ◌-◌, ◌<◌, ◌≤◌, ◌++◌, List, [], ◌∷◌, length, map, sum_by, take, drop, get_or, ap, sym, ◌∙◌, arith}
 use Rattle.std.specs.List.{flat_map, zip}
 use Rattle.std.proofs.lemmas.List.{get_or-append-add, get_or-drop, get_or-map, length-append, length-drop, length-map, map-append, take_more}
 use Rattle.std.proofs.lemmas.List.Sums.{sum_by-append, sum_by_more}
 use Rattle.std.proofs.lemmas.Slice.Zip.{get_or-zip, length-zip}
 use Rattle.plant_data.proofs.UnitLists.{flat_map_take_more}
-use Rattle.plant_data.specs.Configs.{IsAtMost}
 use Rattle.cost_terms.specs.Cost.{added_projects, added_units, domestic, foreign, group_steps, inventory, item_salvage, thermal_steps}
 use Rattle.cost_terms.specs.CostData.{Fits, greatest}
 use Rattle.cost_terms.specs.Totals.{Adds}
@@ -82,7 +81,7 @@ thermal_more c before after k fb fa h =
 pub group_more : (c : CostData) (before after : List ℕ) (k : ℕ) → Fits c before → Fits c after → k < length c.groups →
     flat_map (λ (s : GroupCost × (ℕ × ℕ)). added_projects s.0 s.1.0 s.1.1) (take (k + 1) (group_steps c before after))
     ≡ flat_map (λ (s : GroupCost × (ℕ × ℕ)). added_projects s.0 s.1.0 s.1.1) (take k (group_steps c before after))
-      ++ added_projects (get_or c.groups k no_group) (get_or before (length c.thermal + k) 0) (get_or after (length c.thermal + k) 0)
+    ++ added_projects (get_or c.groups k no_group) (get_or before (length c.thermal + k) 0) (get_or after (length c.thermal + k) 0)
 group_more c before after k fb fa h =
     let f : GroupCost × (ℕ × ℕ) → List Item = λ s. added_projects s.0 s.1.0 s.1.1 in
     let steps = group_steps c before after in

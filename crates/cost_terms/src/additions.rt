@@ -146,12 +146,7 @@ impl Totals {
 }
 
 /// The sums over the units of thermal candidates that a year adds.
-fn thermal_totals(
-    costs: &CostData,
-    before: &Config,
-    after: &Config,
-    horizon: &Horizon,
-) -> Totals
+fn thermal_totals(costs: &CostData, before: &Config, after: &Config, horizon: &Horizon) -> Totals
     requires costs { IsEconomy costs.now }
     requires before { Fits costs.now before.now }
     requires after { Fits costs.now after.now }
@@ -198,19 +193,19 @@ fn group_totals(
     let first = costs.thermal.as_slice().len();
     let mut totals = thermal;
     for k in 0..groups.len() {
-        totals = totals.add_projects(&groups[k], before.get(first + k), after.get(first + k), horizon);
+        totals = totals.add_projects(
+            &groups[k],
+            before.get(first + k),
+            after.get(first + k),
+            horizon,
+        );
     }
     totals
 }
 
 /// The sums over all that a year adds.
 #[tactic(auto, using(crate::proofs::Steps::adds_more))]
-pub fn year_totals(
-    costs: &CostData,
-    before: &Config,
-    after: &Config,
-    horizon: &Horizon,
-) -> Totals
+pub fn year_totals(costs: &CostData, before: &Config, after: &Config, horizon: &Horizon) -> Totals
     requires costs { IsEconomy costs.now }
     requires before { Fits costs.now before.now }
     requires after { Fits costs.now after.now }

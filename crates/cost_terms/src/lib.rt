@@ -26,4 +26,4 @@ mod tests;
 pub use economy::Economy;
 pub use entries::{CaseTable, Layer, Scored};
 pub use prices::{CostData, GroupCost, PlantCost, ProjectCost, Rates, ShortagePrice, ThermalCost};
-pub use terms::{Built, Ran, build_cost, run_cost, step_cost};
+pub use terms::{Built, Ran, build_cost, run_cost, salvage_is_within_build, step_cost};

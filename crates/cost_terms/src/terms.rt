@@ -1,7 +1,7 @@
 //! The terms of a year's cost.
 ghost use Rattle.std.specs.Prelude.{◌≡◌, ◌+◌, ◌-◌, ◌*◌, ◌/◌, ◌^◌, ◌<◌, ◌≤◌};
 ghost use Rattle.plant_data.specs.Configs.{IsAtMost};
-ghost use Rattle.cost_terms.specs.Cost.{build, fuel, horizon, salvage, step_cost, stock, unserved, upkeep};
+ghost use Rattle.cost_terms.specs.Cost.{SalvageIsWithinBuild, build, fuel, horizon, salvage, step_cost, stock, unserved, upkeep};
 ghost use Rattle.cost_terms.specs.CostData.{Fits, IsEconomy, IsRow};
 ghost use Rattle.cost_terms.specs.Factors.{AreFactors};
 ghost use Rattle.cost_terms.specs.Table.{IsEntry};
@@ -66,7 +66,8 @@ fn both_worth(domestic: u64, factor: u64, foreign: u64, factor_abroad: u64, whol
     requires room { domestic * factor + foreign * factor_abroad < 2 ^ 128 }
     ensures { result ≡ (domestic * factor + foreign * factor_abroad) / whole }
 {
-    let sum = u128::from(domestic) * u128::from(factor) + u128::from(foreign) * u128::from(factor_abroad);
+    let sum = u128::from(domestic) * u128::from(factor)
+        + u128::from(foreign) * u128::from(factor_abroad);
     (sum / u128::from(whole)) as u64
 }
 
@@ -87,7 +88,13 @@ fn horizon_of(costs: &CostData, factors: &Factors, year: u64) -> Horizon
 }
 
 /// The terms of the additions of a year.
-fn build_terms(costs: &CostData, factors: &Factors, year: u64, before: &Config, after: &Config) -> Built
+fn build_terms(
+    costs: &CostData,
+    factors: &Factors,
+    year: u64,
+    before: &Config,
+    after: &Config,
+) -> Built
     requires costs { IsEconomy costs.now }
     requires factors { AreFactors costs.now factors.now }
     requires first { 1 ≤ year }
@@ -133,7 +140,13 @@ fn run_terms(costs: &CostData, factors: &Factors, year: u64, config: &Config, ro
     let cents = 12_000 * fixed_of(costs, year, config) + row.variable;
     let short = unserved_cents(costs, year, row);
     Ran {
-        fuel: both_worth(row.fuel_domestic, domestic, row.fuel_foreign, abroad, 100_000 * ONE),
+        fuel: both_worth(
+            row.fuel_domestic,
+            domestic,
+            row.fuel_foreign,
+            abroad,
+            100_000 * ONE,
+        ),
         upkeep: mul_div_floor(cents, middle, 100 * ONE),
         unserved: mul_div_floor(short, middle, 100 * ONE),
     }
@@ -170,6 +183,12 @@ pub fn run_cost(economy: &Economy, year: u64, config: &Config, row: &Row) -> Ran
 {
     run_terms(economy.costs(), economy.factors(), year, config, row)
 }
+
+/// No salvage is above its investment, whatever the economy, the year and the counts.
+#[tactic(auto, using(crate::proofs::Salvage::within_build))]
+pub fn salvage_is_within_build()
+    ensures { SalvageIsWithinBuild }
+{}
 
 /// The cost of a year, counted from 1, in dollars of present worth at the beginning of year 1, from the
 /// counts before it to a configuration with its row. It takes no memory and never refuses. Thirty such costs

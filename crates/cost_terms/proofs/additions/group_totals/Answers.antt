@@ -1,4 +1,4 @@
-use Rattle.std.proofs.Common.{◌≡◌, ℕ, ◌+◌, ◌<◌, List, [], ◌∷◌, length, get_or, ap, sym, subst, ◌∙◌, arith, take, drop}
+use Rattle.std.proofs.Common.{◌≡◌, ℕ, ◌+◌, ◌<◌, List, length, get_or, ap, sym, subst, ◌∙◌, arith, drop}
 use Rattle.std.specs.List.{flat_map}
 use Rattle.std.proofs.lemmas.List.{get_or_default, take_all}
 use Rattle.cost_terms.specs.Cost.{added_projects, group_steps}
@@ -38,4 +38,4 @@ returns-clause-adds c =
     let steps = group_steps costs c.args.before.now c.args.after.now in
     let n : length steps ≡ length costs.groups = pairs_long costs.groups mb ma (omega (arith, groups_long costs c.args.before.now c.requires.before)) (omega (arith, groups_long costs c.args.after.now c.requires.after)) in
     subst (λ (xs : List (GroupCost × (ℕ × ℕ))). Adds c.args.horizon.now c.args.thermal (flat_map (λ (s : GroupCost × (ℕ × ℕ)). added_projects s.0 s.1.0 s.1.1) xs) c.loop-k.totals)
-      (take_all c.loop-k.k steps (omega (arith, n, c.loop-k-test.false, ap length c.as_slice-groups.ensures))) c.loop-k.invariant.adds
+    (take_all c.loop-k.k steps (omega (arith, n, c.loop-k-test.false, ap length c.as_slice-groups.ensures))) c.loop-k.invariant.adds

@@ -1,4 +1,4 @@
-use Rattle.std.proofs.Common.{◌≡◌, ℕ, ◌-◌, ◌*◌, ◌<◌, ◌≤◌, List, [], ◌∷◌, length, map, get_or, ap, sym, subst, arith, take}
+use Rattle.std.proofs.Common.{◌≡◌, ℕ, ◌-◌, ◌*◌, ◌<◌, ◌≤◌, List, [], ◌∷◌, length, map, get_or, ap, sym, subst, arith}
 use Rattle.std.proofs.Math.Nat.{mul-le-mul}
 use Rattle.std.proofs.lemmas.List.{take_all}
 use Rattle.cost_terms.specs.Cost.{added_units, thermal_steps}
@@ -34,4 +34,4 @@ returns-clause-adds c =
     let steps = thermal_steps costs c.args.before.now c.args.after.now in
     let n : length steps ≡ length costs.thermal = pairs_long costs.thermal c.args.before.now c.args.after.now (counted costs c.args.before.now c.requires.before) (counted costs c.args.after.now c.requires.after) in
     subst (λ (xs : List (ThermalCost × (ℕ × ℕ))). Adds c.args.horizon.now nothing (map (λ (s : ThermalCost × (ℕ × ℕ)). added_units s.0 (s.1.1 - s.1.0)) xs) c.loop-k.totals)
-      (take_all c.loop-k.k steps (omega (arith, n, c.loop-k-test.false, ap length c.as_slice-thermal.ensures))) c.loop-k.invariant.adds
+    (take_all c.loop-k.k steps (omega (arith, n, c.loop-k-test.false, ap length c.as_slice-thermal.ensures))) c.loop-k.invariant.adds

@@ -1,6 +1,5 @@
-use Rattle.std.proofs.Common.{◌≡◌, ◌+◌, ◌-◌, ◌*◌, ◌/◌, ◌<◌, ◌≤◌, ℕ, get_or, arith}
+use Rattle.std.proofs.Common.{◌≡◌, ◌-◌, ◌≤◌, ℕ, get_or, arith}
 use Rattle.wasp_fixed.specs.Discounts.{end_factor}
-use Rattle.wasp_fixed.specs.declared.numbers.TheConstants.{ONE}
 use Rattle.cost_terms.specs.Cost.{horizon}
 use Rattle.cost_terms.specs.Factors.{AreFactors}
 use Rattle.cost_terms.specs.Totals.{IsWithin}
@@ -32,29 +31,29 @@ worths c f year h t v few last is within mw =
 
 pub both_worth-requires-clause-fits : goal.both_worth-requires-clause-fits
 both_worth-requires-clause-fits c =
-    let a = worths c.args.costs.now c.args.factors.now c.args.year c.horizon_of-horizon.result c.year_totals-totals.result c.requires.factors c.requires.costs.years.1 c.requires.last c.horizon_of-horizon.ensures.value c.year_totals-totals.ensures.within c.year_totals-totals.ensures.mw in
+    let a = worths _ _ _ _ _ c.requires.factors c.requires.costs.years.1 c.requires.last c.horizon_of-horizon.ensures.value c.year_totals-totals.ensures.within c.year_totals-totals.ensures.mw in
     let m = build_most _ _ _ _ _ a in
     omega (arith, m)
 
 pub overflow_sub-worth : goal.overflow_sub-worth
 overflow_sub-worth c =
-    let a = worths c.args.costs.now c.args.factors.now c.args.year c.horizon_of-horizon.result c.year_totals-totals.result c.requires.factors c.requires.costs.years.1 c.requires.last c.horizon_of-horizon.ensures.value c.year_totals-totals.ensures.within c.year_totals-totals.ensures.mw in
+    let a = worths _ _ _ _ _ c.requires.factors c.requires.costs.years.1 c.requires.last c.horizon_of-horizon.ensures.value c.year_totals-totals.ensures.within c.year_totals-totals.ensures.mw in
     a.falls
 
 pub mul_div_floor-requires-clause-fits : goal.mul_div_floor-requires-clause-fits
 mul_div_floor-requires-clause-fits c =
-    let a = worths c.args.costs.now c.args.factors.now c.args.year c.horizon_of-horizon.result c.year_totals-totals.result c.requires.factors c.requires.costs.years.1 c.requires.last c.horizon_of-horizon.ensures.value c.year_totals-totals.ensures.within c.year_totals-totals.ensures.mw in
+    let a = worths _ _ _ _ _ c.requires.factors c.requires.costs.years.1 c.requires.last c.horizon_of-horizon.ensures.value c.year_totals-totals.ensures.within c.year_totals-totals.ensures.mw in
     let m = stock_most _ _ _ _ _ a in
     omega (arith, m)
 
 pub returns-clause-regained : goal.returns-clause-regained
 returns-clause-regained c =
-    let a = worths c.args.costs.now c.args.factors.now c.args.year c.horizon_of-horizon.result c.year_totals-totals.result c.requires.factors c.requires.costs.years.1 c.requires.last c.horizon_of-horizon.ensures.value c.year_totals-totals.ensures.within c.year_totals-totals.ensures.mw in
+    let a = worths _ _ _ _ _ c.requires.factors c.requires.costs.years.1 c.requires.last c.horizon_of-horizon.ensures.value c.year_totals-totals.ensures.within c.year_totals-totals.ensures.mw in
     rw c.both_worth.ensures (regained _ _ _ _ _ _ _ a.salvage a.falls a.falls_abroad)
 
 pub returns-clause-small : goal.returns-clause-small
 returns-clause-small c =
-    let a = worths c.args.costs.now c.args.factors.now c.args.year c.horizon_of-horizon.result c.year_totals-totals.result c.requires.factors c.requires.costs.years.1 c.requires.last c.horizon_of-horizon.ensures.value c.year_totals-totals.ensures.within c.year_totals-totals.ensures.mw in
+    let a = worths _ _ _ _ _ c.requires.factors c.requires.costs.years.1 c.requires.last c.horizon_of-horizon.ensures.value c.year_totals-totals.ensures.within c.year_totals-totals.ensures.mw in
     let m = build_most _ _ _ _ _ a in
     let n = stock_most _ _ _ _ _ a in
     omega (arith, m, n, c.both_worth.ensures, c.mul_div_floor.ensures)

@@ -1,4 +1,4 @@
-use Rattle.std.proofs.Common.{◌≡◌, ℕ, zero, suc, ◌-◌, ◌<◌, ◌≤◌, ◌^◌, ◌∙◌, ◌++◌, List, [], ◌∷◌, All, arith, refl, sym, subst}
+use Rattle.std.proofs.Common.{◌≡◌, ℕ, zero, suc, ◌<◌, ◌≤◌, ◌^◌, ◌∙◌, ◌++◌, List, [], ◌∷◌, All, arith, refl, sym, subst}
 use Rattle.std.proofs.lemmas.List.Elements.{All-cons, All-nil}
 use Rattle.cost_terms.specs.CostData.{IsEconomy, IsGroupCost, IsPlantCost, IsProjectCost, IsThermalCost, unit_limit}
 use Rattle.cost_terms.specs.declared.prices.CostData.{CostData}
@@ -38,7 +38,8 @@ river = record { existing = 1; greatest = 2; fixed = 50; projects = projects }
 abbrev costs : CostData
 costs =
     record {
-      years = 3; version = 2;
+      years = 3;
+      version = 2;
       rates = record { domestic = 1000; foreign = 800 };
       escalation = record { domestic = 300; foreign = 200 };
       shortage = record { plain = 100000; linear = 200000; square = 300000 };
