@@ -3,8 +3,6 @@
 -- are this program's own.
 use Rattle.std.specs.Prelude.{◌≡◌, ℕ, ◌+◌, ◌-◌, ◌^◌, ◌<◌, ◌≤◌, List, ◌++◌, length, map, sum_by, All, slice_index}
 use Rattle.plant_data.specs.Configs.{IsAtMost}
-use Rattle.plant_data.specs.declared.row.Row.{Row}
-use Rattle.wasp_fixed.specs.declared.numbers.TheConstants.{ONE}
 use Rattle.cost_terms.specs.declared.prices.CostData.{CostData}
 use Rattle.cost_terms.specs.declared.prices.GroupCost.{GroupCost}
 use Rattle.cost_terms.specs.declared.prices.PlantCost.{PlantCost}
@@ -72,12 +70,3 @@ pub record IsEconomy (c : CostData) : Type 0 where
   pub groups : (length c.groups ≤ 2) × All IsGroupCost c.groups
   pub candidate : 1 ≤ length c.thermal + length c.groups
   pub few_units : (year : ℕ) → 1 ≤ year → year ≤ c.years → unit_limit c year ≤ 128
-
--- the fields of a row are within their bounds
-pub record IsRow (r : Row) : Type 0 where
-  pub fuel : (r.fuel_domestic < 2 ^ 63) × (r.fuel_foreign < 2 ^ 63)
-  pub variable : r.variable < 2 ^ 49
-  pub unserved : r.unserved < 2 ^ 32
-  pub worst : r.worst ≤ ONE
-  pub average : r.average ≤ ONE
-  pub shorts : (r.short1 < 2 ^ 32) × (r.short2 < 2 ^ 32) × (r.short3 < 2 ^ 32) × (r.short4 < 2 ^ 32) × (r.short5 < 2 ^ 32)

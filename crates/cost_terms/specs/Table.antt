@@ -6,7 +6,8 @@ use Rattle.std.specs.Cmp.Lexicographic.{slice_cmp}
 use Rattle.std.specs.Ordering.{nat_cmp}
 use Rattle.std.specs.declared.cmp.Ordering.TheVariants.{Less}
 use Rattle.cost_terms.specs.Cost.{nothing_built, step_cost}
-use Rattle.cost_terms.specs.CostData.{Fits, IsEconomy, IsRow}
+use Rattle.cost_terms.specs.CostData.{Fits, IsEconomy}
+use Rattle.plant_data.specs.Rows.{IsRow}
 use Rattle.cost_terms.specs.declared.entries.Scored.{Scored}
 use Rattle.cost_terms.specs.declared.prices.CostData.{CostData}
 

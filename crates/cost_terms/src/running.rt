@@ -1,7 +1,8 @@
 //! What running a configuration for a year costs, before it is discounted.
 ghost use Rattle.std.specs.Prelude.{◌≡◌, ◌+◌, ◌-◌, ◌*◌, ◌<◌, ◌≤◌, ◌^◌, All, length};
+ghost use Rattle.plant_data.specs.Rows.{IsRow};
 ghost use Rattle.cost_terms.specs.Cost.{groups_fixed, plants_fixed, projects_mw, shortage_cost, thermal_fixed, weighted_cents, unserved_cents};
-ghost use Rattle.cost_terms.specs.CostData.{Fits, IsEconomy, IsGroupCost, IsRow};
+ghost use Rattle.cost_terms.specs.CostData.{Fits, IsEconomy, IsGroupCost};
 
 use crate::prices::{CostData, GroupCost, ShortagePrice};
 use plant_data::{Config, Row};

@@ -1,8 +1,9 @@
 //! The terms of a year's cost.
 ghost use Rattle.std.specs.Prelude.{◌≡◌, ◌+◌, ◌-◌, ◌*◌, ◌/◌, ◌^◌, ◌<◌, ◌≤◌};
 ghost use Rattle.plant_data.specs.Configs.{IsAtMost};
+ghost use Rattle.plant_data.specs.Rows.{IsRow};
 ghost use Rattle.cost_terms.specs.Cost.{SalvageIsWithinBuild, build, fuel, horizon, salvage, step_cost, stock, unserved, upkeep};
-ghost use Rattle.cost_terms.specs.CostData.{Fits, IsEconomy, IsRow};
+ghost use Rattle.cost_terms.specs.CostData.{Fits, IsEconomy};
 ghost use Rattle.cost_terms.specs.Factors.{AreFactors};
 ghost use Rattle.cost_terms.specs.Table.{IsEntry};
 ghost use Rattle.cost_terms.specs.Totals.{IsHorizon};

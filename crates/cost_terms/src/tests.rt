@@ -1,5 +1,6 @@
 ghost use Rattle.std.specs.Prelude.{◌≡◌, ◌-◌, ◌*◌, ◌^◌, ◌<◌, ◌≤◌, [], ◌∷◌, IfOk};
-ghost use Rattle.cost_terms.specs.CostData.{IsEconomy, IsRow, greatest};
+ghost use Rattle.cost_terms.specs.CostData.{IsEconomy, greatest};
+ghost use Rattle.plant_data.specs.Rows.{IsRow};
 
 use crate::{
     Built, CaseTable, CostData, Economy, GroupCost, Layer, PlantCost, ProjectCost, Ran, Rates,

@@ -8,7 +8,8 @@ use Rattle.plant_data.specs.declared.row.Tunnel.{Tunnel}
 use Rattle.plant_data.proofs.UnitLists.{no_plant}
 use Rattle.plant_data.specs.declared.plant.Plant.{Plant}
 use Rattle.plant_data.specs.declared.water.Group.{Group}
-use Rattle.tunnel_configs.specs.Listed.{IsInTunnel, IsTunnelOf}
+use Rattle.plant_data.specs.Tunnels.{IsTunnelOf}
+use Rattle.tunnel_configs.specs.Listed.{IsInTunnel}
 use Rattle.year_system.specs.Capacity.{no_group}
 use Rattle.year_system.specs.System.{Fits, IsSystem, System, greatest, size}
 use Rattle.year_system.proofs.Radix.{size_drop, size_pos}
@@ -27,8 +28,8 @@ size_drop_most gs zero = omega arith
 size_drop_most [] (suc k) = omega arith
 size_drop_most (g ∷ gs) (suc k) = omega (arith, size_drop_most gs k, mul-le-mul_right {m = 1} {n = g + 1} (size gs) (omega arith))
 
-pub tunnel_most : (s : System) (t : Tunnel) → IsTunnelOf s t → size t.width ≤ size (greatest s)
-tunnel_most s t h = size_most t.width (greatest s) h.width (λ k b. omega (arith, h.most k b))
+pub tunnel_most : (s : System) (t : Tunnel) → IsTunnelOf (greatest s) t → size t.width ≤ size (greatest s)
+tunnel_most s t h = size_most t.width (greatest s) h.width (λ k b. omega (arith, h.most k))
 
 -- one more width, from the last on
 pub one_more : (ws : List ℕ) (n k w size' : ℕ) → n ≡ length ws → k < n → w ≡ get_or ws (n - 1 - k) 0 → size' ≡ size (drop (n - k) ws) → size' * (w + 1) ≡ size (drop (n - (k + 1)) ws)
@@ -41,7 +42,7 @@ one_more ws n k w size' e h v s =
     omega (arith, whole)
 
 -- and it fits
-pub more_fits : (s : System) (t : Tunnel) (k size' : ℕ) → IsTunnelOf s t → size' ≡ size (drop k t.width) → size' ≤ size (greatest s)
+pub more_fits : (s : System) (t : Tunnel) (k size' : ℕ) → IsTunnelOf (greatest s) t → size' ≡ size (drop k t.width) → size' ≤ size (greatest s)
 more_fits s t k size' h e = omega (arith, e, size_drop_most t.width k, tunnel_most s t h)
 
 -- no greatest count is above 128
@@ -64,13 +65,13 @@ greatest_small s k v h =
             omega (arith, at, (v.groups.1 (k - length s.thermal) no_group within).greatest))
         (cases_lt k (length s.thermal))
 
-pub tunnel_small : (s : System) (t : Tunnel) → IsSystem s → IsTunnelOf s t → (k : ℕ) → k < length t.least → get_or t.least k 0 + get_or t.width k 0 ≤ 128
+pub tunnel_small : (s : System) (t : Tunnel) → IsSystem s → IsTunnelOf (greatest s) t → (k : ℕ) → k < length t.least → get_or t.least k 0 + get_or t.width k 0 ≤ 128
 tunnel_small s t v h k b =
     let l : k < length (greatest s) = omega (arith, b, h.least) in
-    omega (arith, h.most k l, greatest_small s k v l)
+    omega (arith, h.most k, greatest_small s k v l)
 
-pub in_tunnel_fits : (s : System) (t : Tunnel) (counts : List ℕ) → IsTunnelOf s t → IsInTunnel t counts → Fits s counts
+pub in_tunnel_fits : (s : System) (t : Tunnel) (counts : List ℕ) → IsTunnelOf (greatest s) t → IsInTunnel t counts → Fits s counts
 in_tunnel_fits s t counts h b = record {
   width = b.width ∙ h.least;
-  most = λ k l. omega (arith, (b.each k l).1, h.most k (omega (arith, l, b.width, h.least)));
+  most = λ k l. omega (arith, (b.each k l).1, h.most k);
 }

@@ -11,12 +11,6 @@ use Rattle.plant_data.specs.declared.shape.Load.{Load}
 use Rattle.year_system.specs.Capacity.{capacity}
 use Rattle.year_system.specs.System.{System, greatest, size}
 
--- the tunnel of a system: a least count and a width for each candidate, together at most its greatest count
-pub record IsTunnelOf (s : System) (t : Tunnel) : Type 0 where
-  pub least : length t.least ≡ length (greatest s)
-  pub width : length t.width ≡ length (greatest s)
-  pub most : (k : ℕ) → k < length (greatest s) → slice_index t.least k + slice_index t.width k ≤ slice_index (greatest s) k
-
 -- how many configurations a tunnel has: its box
 abbrev pub box_size : Tunnel → ℕ
 box_size t = size t.width

@@ -1,8 +1,9 @@
 //! The listed configurations of a year.
 ghost use Rattle.std.specs.Prelude.{◌≡◌, ℕ, ◌+◌, ◌<◌, ◌≤◌, ◌++◌, [], ◌∷◌, All, IfOk, OnOk, IsErrOf, length, take};
-ghost use Rattle.tunnel_configs.specs.Listed.{HasListing, IsListing, IsTunnelOf, ListingsAreOne, box_size};
+ghost use Rattle.plant_data.specs.Tunnels.{IsTunnelOf};
+ghost use Rattle.tunnel_configs.specs.Listed.{HasListing, IsListing, ListingsAreOne, box_size};
 ghost use Rattle.tunnel_configs.specs.Neighbours.{Considered, IsGathered};
-ghost use Rattle.year_system.specs.System.{Fits, IsLoad};
+ghost use Rattle.year_system.specs.System.{Fits, IsLoad, greatest};
 ghost use Rattle.tunnel_configs.specs.declared.error.ConfigsError.TheVariants.{TooMany, TooWide};
 
 use crate::error::ConfigsError;
@@ -65,7 +66,7 @@ fn gather(
     margin: &Margin,
     configs: &mut Vec<Config>,
 ) -> Result<u64, AllocError>
-    requires tunnel { IsTunnelOf system.now tunnel.now }
+    requires tunnel { IsTunnelOf (greatest system.now) tunnel.now }
     requires low { margin.now.low ≤ 100000 }
     requires high { margin.now.high ≤ 100000 }
     requires small { box_size tunnel.now ≤ MAX_BOX }
@@ -95,7 +96,7 @@ pub fn configs(
     tunnel: &Tunnel,
     margin: &Margin,
 ) -> Result<Vec<Config>, ConfigsError>
-    requires tunnel { IsTunnelOf system.now tunnel.now }
+    requires tunnel { IsTunnelOf (greatest system.now) tunnel.now }
     requires low { margin.now.low ≤ 100000 }
     requires high { margin.now.high ≤ 100000 }
     ensures value { IfOk result (λ configs. IsListing system.now tunnel.now margin.now configs.items) }

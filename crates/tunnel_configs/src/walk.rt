@@ -1,14 +1,16 @@
 //! The configurations of a tunnel in rising order, one after the other.
 ghost use Rattle.std.specs.Prelude.{◌≡◌, ℕ, ◌+◌, ◌<◌, ◌≤◌, ◌^◌, IfSome, length, slice_index, Some, None, IsTrue, IsFalse};
-ghost use Rattle.tunnel_configs.specs.Listed.{IsInTunnel, IsTunnelOf, box_size};
+ghost use Rattle.plant_data.specs.Tunnels.{IsTunnelOf};
+ghost use Rattle.tunnel_configs.specs.Listed.{IsInTunnel, box_size};
 ghost use Rattle.tunnel_configs.specs.Neighbours.{IsLast, IsNext, left};
+ghost use Rattle.year_system.specs.System.{greatest};
 
 use plant_data::{Config, Tunnel};
 use year_system::YearSystem;
 
 /// The number of configurations of a tunnel.
 pub fn box_size(system: &YearSystem, tunnel: &Tunnel) -> u64
-    requires { IsTunnelOf system.now tunnel.now }
+    requires { IsTunnelOf (greatest system.now) tunnel.now }
     ensures value { result ≡ box_size tunnel.now }
 {
     let width = system.width();
