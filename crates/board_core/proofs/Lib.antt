@@ -1,0 +1,9 @@
+pub mod Parts
+pub mod Homes
+pub mod Lists
+pub mod Keeps
+pub mod Tests
+pub mod Machines
+pub mod Begins
+pub mod Sets
+pub mod Schedules

@@ -1,0 +1,7 @@
+pub mod Lists
+pub mod Rows
+pub mod Sound
+pub mod Events
+pub mod Machine
+pub mod Start
+pub mod Laid
