@@ -7,3 +7,6 @@ pub mod Machines
 pub mod Begins
 pub mod Sets
 pub mod Schedules
+pub mod Pigeons
+pub mod Laying
+pub mod Lasting

@@ -22,7 +22,8 @@ use Rattle.board_core.specs.Rows.{terms, codes_of, home_slot, due_word}
 use Rattle.board_core.specs.Machine.{Machine, slot_of, cells_in, run, free_slot, slot_at, actor_at, state_of, machine_cells, machine_terms, has_seen_other, path_seen, distance, has_code, has, has_seen, is_empty_hand, is_slot_in, all_written, written_of, may_look, may_place, with_actor_at, with_slot_at, looked_at, placed_in, after, IsShaped, IsSoundMachine}
 use Rattle.board_core.proofs.Keeps.{look_code, place_free, each_put, put_here, put_else, split, join, write_word, publish, look_state, read_word}
 use Rattle.board_core.proofs.Parts.{fits_of}
-use Rattle.board_core.proofs.Lists.{times-in}
+use Rattle.board_core.proofs.Lists.{times-in, terms_le}
+use Rattle.board_core.proofs.Sets.{any_default}
 use Rattle.board_core.proofs.Homes.{home_slot-below}
 
 pub and_left : (a b : Bool) → (a && b) ≡ true → a ≡ true
@@ -37,10 +38,10 @@ or_cases : (a b : Bool) → (a || b) ≡ true → (a ≡ true) ⊎ (b ≡ true)
 or_cases true b e = inl refl
 or_cases false b e = inr e
 
-same_of : (a b : ℕ) → (a == b) ≡ true → a ≡ b
+pub same_of : (a b : ℕ) → (a == b) ≡ true → a ≡ b
 same_of a b e = grind (arith, nat_tests)
 
-other_of : (a b : ℕ) → not (a == b) ≡ true → a ≢ b
+pub other_of : (a b : ℕ) → not (a == b) ≡ true → a ≢ b
 other_of a b e h = true≢false (sym e ∙ ap not (eq-eqb a b h))
 
 saw_other : (x s : ℕ) (seen : List (ℕ × ℕ)) → has_seen_other x s seen ≡ true → (y : ℕ) × IsIn (s, y) seen × (y ≢ x)
@@ -80,12 +81,12 @@ spot_distance n h s a b = ⊎_elim
     mod_small : (a n : ℕ) → a < n → a % n ≡ a
     mod_small a n lt = mod-eq_of_lt lt
 
-living_at : (l : List Actor) (k : ℕ) → (get_or l k spent).living ≡ true → get_elem? l k ≡ some (get_or l k spent)
+pub living_at : (l : List Actor) (k : ℕ) → (get_or l k spent).living ≡ true → get_elem? l k ≡ some (get_or l k spent)
 living_at [] k e = absurd (true≢false (sym e))
 living_at (a ∷ l) zero e = refl
 living_at (a ∷ l) (suc k) e = living_at l k e
 
-free_hand : (o : Option Hand) → is_empty_hand o ≡ true → o ≡ None
+pub free_hand : (o : Option Hand) → is_empty_hand o ≡ true → o ≡ None
 free_hand None e = refl
 free_hand (Some h) e = absurd (true≢false (sym e))
 
@@ -125,7 +126,7 @@ cells_placed m s x lt = λ i. record { code = λ u. code u i; state = λ u. stat
     row u at = ⊎_elim (λ (e : u ≡ s). ap (λ (w : Slot). slice_index w.words at) (here u e) ∙ ap (λ k. slice_index (slot_at m k).words at) (sym e)) (λ (n : u ≢ s). ap (λ (w : Slot). slice_index w.words at) (elsewhere u n)) (cases_eq u s)
 
 -- an event that is not enabled changes nothing; an enabled one is a case
-if_enabled : (b : Bool) (x y : Machine) → (b ≡ true → IsSoundMachine x) → IsSoundMachine y → IsSoundMachine (if b then x else y)
+pub if_enabled : (b : Bool) (x y : Machine) → (b ≡ true → IsSoundMachine x) → IsSoundMachine y → IsSoundMachine (if b then x else y)
 if_enabled true x y h k = h refl
 if_enabled false x y h k = k
 
@@ -160,16 +161,31 @@ after_look m k s h = if_enabled (may_look m k s) (looked_at m k s (slot_at m s).
     }))
     h
 
+pub elem_or_spent : (l : List Actor) (k : ℕ) → (get_elem? l k ≡ some (get_or l k spent)) ⊎ (get_or l k spent ≡ spent)
+elem_or_spent [] k = inr refl
+elem_or_spent (a ∷ l) zero = inl refl
+elem_or_spent (a ∷ l) (suc k) = elem_or_spent l k
+
+-- who has a share is living
+pub share_lives : (t : Terms) (c : Cells) (vs : List Actor) (k : ℕ) → IsSound t c vs → 0 < (get_or vs k spent).share → (get_or vs k spent).living ≡ true
+share_lives t c vs k w some_share = ⊎_elim
+    (λ (at : get_elem? vs k ≡ some (get_or vs k spent)).
+    ⊎_elim (λ (y : (get_or vs k spent).living ≡ true). y)
+    (λ (n : (get_or vs k spent).living ≡ false). let g = ((fits_of w k (get_or vs k spent) at).gone n).0 in absurd (omega arith))
+    (cases_Bool (get_or vs k spent).living))
+    (λ (s : get_or vs k spent ≡ spent). let g : (get_or vs k spent).share ≡ 0 = ap (λ (a : Actor). a.share) s in absurd (omega arith))
+    (elem_or_spent vs k)
+
 pub after_place : (m : Machine) (k s x : ℕ) → x ≢ 0 → IsSoundMachine m → IsSoundMachine (after m (PlaceCode k s x))
 after_place m k s x nz h = if_enabled (may_place m k s x) (placed_in m k s x) m
     (λ e.
     let a = actor_at m k in
-    let front = and_left ((a.living && is_empty_hand a.hand) && (nat_lt s (length m.slots) && has_code x m.rows)) (path_seen m.bits x a.seen (distance m.bits x s)) e in
-    let seen = and_right ((a.living && is_empty_hand a.hand) && (nat_lt s (length m.slots) && has_code x m.rows)) (path_seen m.bits x a.seen (distance m.bits x s)) e in
-    let p = and_left (a.living && is_empty_hand a.hand) (nat_lt s (length m.slots) && has_code x m.rows) front in
-    let q = and_right (a.living && is_empty_hand a.hand) (nat_lt s (length m.slots) && has_code x m.rows) front in
-    let live = and_left a.living (is_empty_hand a.hand) p in
-    let free = free_hand a.hand (and_right a.living (is_empty_hand a.hand) p) in
+    let front = and_left ((nat_lt 0 a.share && is_empty_hand a.hand) && (nat_lt s (length m.slots) && has_code x m.rows)) (path_seen m.bits x a.seen (distance m.bits x s)) e in
+    let seen = and_right ((nat_lt 0 a.share && is_empty_hand a.hand) && (nat_lt s (length m.slots) && has_code x m.rows)) (path_seen m.bits x a.seen (distance m.bits x s)) e in
+    let p = and_left (nat_lt 0 a.share && is_empty_hand a.hand) (nat_lt s (length m.slots) && has_code x m.rows) front in
+    let q = and_right (nat_lt 0 a.share && is_empty_hand a.hand) (nat_lt s (length m.slots) && has_code x m.rows) front in
+    let live = share_lives (machine_terms m) (machine_cells m) m.actors k h.sound (ltb-true 0 a.share (and_left (nat_lt 0 a.share) (is_empty_hand a.hand) p)) in
+    let free = free_hand a.hand (and_right (nat_lt 0 a.share) (is_empty_hand a.hand) p) in
     let lt : s < length m.slots = ltb-true s (length m.slots) (and_left (nat_lt s (length m.slots)) (has_code x m.rows) q) in
     let code = code_of x m.rows (and_right (nat_lt s (length m.slots)) (has_code x m.rows) q) in
     let few : m.bits ≤ 24 = h.shaped.few.1 in
@@ -192,8 +208,8 @@ after_place_zero : (m : Machine) (k s x : ℕ) → x ≡ 0 → IsSoundMachine m 
 after_place_zero m k s x z h = if_enabled (may_place m k s x) (placed_in m k s x) m
     (λ e.
     let a = actor_at m k in
-    let front = and_left ((a.living && is_empty_hand a.hand) && (nat_lt s (length m.slots) && has_code x m.rows)) (path_seen m.bits x a.seen (distance m.bits x s)) e in
-    let q = and_right (a.living && is_empty_hand a.hand) (nat_lt s (length m.slots) && has_code x m.rows) front in
+    let front = and_left ((nat_lt 0 a.share && is_empty_hand a.hand) && (nat_lt s (length m.slots) && has_code x m.rows)) (path_seen m.bits x a.seen (distance m.bits x s)) e in
+    let q = and_right (nat_lt 0 a.share && is_empty_hand a.hand) (nat_lt s (length m.slots) && has_code x m.rows) front in
     let code = code_of x m.rows (and_right (nat_lt s (length m.slots)) (has_code x m.rows) q) in
     let some = times-in 0 (codes_of m.rows) (subst (λ (y : ℕ). IsIn y (codes_of m.rows)) z code) in
     let none = h.shaped.coded in absurd (omega arith))
@@ -245,14 +261,14 @@ same_default (x ∷ l) (suc i) a b lt = same_default l i a b (omega arith)
 
 -- a slot is replaced
 module _ (m : Machine) (s : ℕ) (v : Slot) (lt : s < length m.slots) where
-  at_slot : ℕ → Slot
+  unfoldable pub at_slot : ℕ → Slot
   at_slot u = slice_index_or (slice_set m.slots s v) u free_slot
 
-  at_here : (u : ℕ) → u ≡ s → at_slot u ≡ v
+  pub at_here : (u : ℕ) → u ≡ s → at_slot u ≡ v
   unfolding at_slot
   at_here u e = ap at_slot e ∙ get_or-set_same m.slots s v free_slot lt
 
-  at_else : (u : ℕ) → u ≢ s → at_slot u ≡ slot_at m u
+  pub at_else : (u : ℕ) → u ≢ s → at_slot u ≡ slot_at m u
   unfolding at_slot
   at_else u n = get_or-set_other m.slots s u v free_slot n
 
@@ -260,7 +276,7 @@ module _ (m : Machine) (s : ℕ) (v : Slot) (lt : s < length m.slots) where
   reading : {A : Type 0} (f : Slot → A) (u : ℕ) → f (at_slot u) ≡ put (λ (w : ℕ). f (slot_at m w)) s (f v) u
   reading f u = each_put (λ y. f (at_slot u) ≡ y) (λ (w : ℕ). f (slot_at m w)) s (f v) u (λ e. ap f (at_here u e)) (λ n. ap f (at_else u n))
 
-  same_reading : {A : Type 0} (f : Slot → A) (u : ℕ) → f v ≡ f (slot_at m s) → f (at_slot u) ≡ f (slot_at m u)
+  pub same_reading : {A : Type 0} (f : Slot → A) (u : ℕ) → f v ≡ f (slot_at m s) → f (at_slot u) ≡ f (slot_at m u)
   same_reading f u e = ⊎_elim (λ (h : u ≡ s). ap f (at_here u h) ∙ e ∙ ap (λ k. f (slot_at m k)) (sym h)) (λ (n : u ≢ s). ap f (at_else u n)) (cases_eq u s)
 
 cells_written : (m : Machine) (s at x : ℕ) → s < length m.slots → at < length (slot_at m s).words
@@ -285,17 +301,12 @@ cells_published m s lt =
     let v : Slot = record { code = (slot_at m s).code; filled = true; words = (slot_at m s).words } in
     λ i. record { code = λ u. same_reading m s v lt (λ (w : Slot). w.code) u refl i; state = λ u. reading m s v lt state_of u i; row = λ u k. same_reading m s v lt (λ (w : Slot). slice_index w.words k) u refl i }
 
-slot_in : (s : ℕ) (o : Option Hand) → is_slot_in s o ≡ true → (h : Hand) × (o ≡ Some h) × (h.slot ≡ s)
+pub slot_in : (s : ℕ) (o : Option Hand) → is_slot_in s o ≡ true → (h : Hand) × (o ≡ Some h) × (h.slot ≡ s)
 slot_in s None e = absurd (true≢false (sym e))
 slot_in s (Some h) e = (h, refl, same_of h.slot s e)
 
-elem_or_spent : (l : List Actor) (k : ℕ) → (get_elem? l k ≡ some (get_or l k spent)) ⊎ (get_or l k spent ≡ spent)
-elem_or_spent [] k = inr refl
-elem_or_spent (a ∷ l) zero = inl refl
-elem_or_spent (a ∷ l) (suc k) = elem_or_spent l k
-
 -- who has something in hand, or knows of a filled slot, is living
-hand_lives : (t : Terms) (c : Cells) (vs : List Actor) (k : ℕ) (h : Hand) → IsSound t c vs → (get_or vs k spent).hand ≡ Some h → (get_or vs k spent).living ≡ true
+pub hand_lives : (t : Terms) (c : Cells) (vs : List Actor) (k : ℕ) (h : Hand) → IsSound t c vs → (get_or vs k spent).hand ≡ Some h → (get_or vs k spent).living ≡ true
 hand_lives t c vs k h w e = ⊎_elim
     (λ (at : get_elem? vs k ≡ some (get_or vs k spent)).
     ⊎_elim (λ (y : (get_or vs k spent).living ≡ true). y)
@@ -328,16 +339,16 @@ after_write m k s at h =
     })
     h
 
+pub is_in_of : (x : ℕ) (xs : List ℕ) → has x xs ≡ true → IsIn x xs
+is_in_of x [] e = absurd (true≢false (sym e))
+is_in_of x (y ∷ ys) e = ⊎_elim (λ (h : (y == x) ≡ true). inl (sym (same_of y x h))) (λ (h : has x ys ≡ true). inr (is_in_of x ys h)) (or_cases (y == x) (has x ys) e)
+
 written_all : (n : ℕ) (l : List ℕ) (at : ℕ) → all_written n l ≡ true → at < n → IsIn at l
 written_all zero l at e lt = absurd (omega arith)
 written_all (suc n) l at e lt = ⊎_elim
-    (λ (h : at ≡ n). subst (λ (k : ℕ). IsIn k l) (sym h) (in_of n l (and_left (has n l) (all_written n l) e)))
+    (λ (h : at ≡ n). subst (λ (k : ℕ). IsIn k l) (sym h) (is_in_of n l (and_left (has n l) (all_written n l) e)))
     (λ (h : at ≢ n). written_all n l at (and_right (has n l) (all_written n l) e) (omega arith))
     (cases_eq at n)
-  where
-    in_of : (x : ℕ) (xs : List ℕ) → has x xs ≡ true → IsIn x xs
-    in_of x [] e = absurd (true≢false (sym e))
-    in_of x (y ∷ ys) e = ⊎_elim (λ (h : (y == x) ≡ true). inl (sym (same_of y x h))) (λ (h : has x ys ≡ true). inr (in_of x ys h)) (or_cases (y == x) (has x ys) e)
 
 pub after_publish : (m : Machine) (k s : ℕ) → IsSoundMachine m → IsSoundMachine (after m (Publish k s))
 after_publish m k s h =
@@ -401,3 +412,20 @@ after_event m (Join k j) h = after_join m k j h
 pub sound_run : (es : List Event) (m : Machine) → IsSoundMachine m → IsSoundMachine (run m es)
 sound_run [] m h = h
 sound_run (e ∷ es) m h = sound_run es (after m e) (after_event m e h)
+
+-- two living actors have no more than the whole share between them
+pub shares_le : (m : Machine) (k j : ℕ) → IsSoundMachine m → (actor_at m k).living ≡ true → (actor_at m j).living ≡ true → j ≢ k → (actor_at m k).share + (actor_at m j).share ≤ 64
+shares_le m k j h live live' ne =
+    let f : Actor → ℕ = λ a. a.share in
+    let le = terms_le f m.actors k j (actor_at m k) (actor_at m j) ne (living_at m.actors k live) (living_at m.actors j live') in
+    let all = h.sound.shares_add_up.1 in
+    omega arith
+
+-- the same, of actors that are read from the list with any default
+pub shares_below : (m : Machine) (k j : ℕ) (a b : Actor) → IsSoundMachine m → k < length m.actors → j < length m.actors → (k ≡ j → ⊥) → a ≡ get_or m.actors k a → b ≡ get_or m.actors j b
+    → a.living ≡ true → b.living ≡ true → (actor_at m k).share + (actor_at m j).share < 2 ^ 64
+shares_below m k j a b h lk lj ne ea eb live live' =
+    let one : a ≡ actor_at m k = ea ∙ any_default m.actors k a spent lk in
+    let two : b ≡ actor_at m j = eb ∙ any_default m.actors j b spent lj in
+    let le = shares_le m k j h (sym (ap (λ (x : Actor). x.living) one) ∙ live) (sym (ap (λ (x : Actor). x.living) two) ∙ live') (λ e. ne (sym e)) in
+    omega arith

@@ -13,7 +13,7 @@ use std::alloc::Global;
 use wasp_fixed::OutOfMemory;
 
 /// As many free slots as there are.
-pub(crate) fn free_slots(alloc: Global, bits: u64) -> Result<Vec<Slot>, OutOfMemory>
+fn free_slots(alloc: Global, bits: u64) -> Result<Vec<Slot>, OutOfMemory>
     requires { bits ≤ 24 }
     ensures { IfOk result (λ v. v.items ≡ free_slots bits) }
 {
@@ -63,7 +63,7 @@ fn lay_row(slots: &mut [Slot], bits: u64, due: &[KeptRow], before: &[KeptRow], r
 }
 
 /// Places the rows in their order.
-pub(crate) fn lay_rows(slots: &mut [Slot], bits: u64, kept: &[KeptRow], due: &[KeptRow])
+fn lay_rows(slots: &mut [Slot], bits: u64, kept: &[KeptRow], due: &[KeptRow])
     requires bits { (1 ≤ bits) × (bits ≤ 24) × (length due.now < 2 ^ bits) }
     requires codes { (r : KeptRow) → IsIn r due.now → r.code ≢ 0 }
     requires equal { (r q : KeptRow) → IsIn r due.now → IsIn q due.now → r.code ≡ q.code → r ≡ q }
@@ -76,4 +76,24 @@ pub(crate) fn lay_rows(slots: &mut [Slot], bits: u64, kept: &[KeptRow], due: &[K
     for k in 0..kept.len() {
         lay_row(slots, bits, due, &kept[..k], &kept[k]);
     }
+}
+
+/// The slots at the start.
+pub(crate) fn first_slots(
+    alloc: Global,
+    bits: u64,
+    kept: &[KeptRow],
+    due: &[KeptRow],
+) -> Result<Vec<Slot>, OutOfMemory>
+    requires bits { (1 ≤ bits) × (bits ≤ 24) × (length due.now < 2 ^ bits) }
+    requires codes { (r : KeptRow) → IsIn r due.now → r.code ≢ 0 }
+    requires equal { (r q : KeptRow) → IsIn r due.now → IsIn q due.now → r.code ≡ q.code → r ≡ q }
+    requires once { (x : ℕ) → times x (codes_of kept.now) ≤ 1 }
+    requires due { (r : KeptRow) → IsIn r kept.now → IsIn r due.now }
+    ensures laid { IfOk result (λ v. IsLaid bits due.now (codes_of kept.now) v.items) }
+    ensures placed { IfOk result (λ v. LaysRows bits (free_slots bits) kept.now v.items) }
+{
+    let mut slots = free_slots(alloc, bits)?;
+    lay_rows(slots.as_mut_slice(), bits, kept, due);
+    Ok(slots)
 }

@@ -24,6 +24,7 @@ pub fn run_events(state: &mut BoardState, events: &[Event]) -> Result<(), OutOfM
     ensures whole { (k s : ℕ) → (actor_at state.new k).share ≡ 64 → (actor_at state.new k).hand ≡ None → (slot_at state.new s).code ≢ 0 → (slot_at state.new s).filled ≡ true }
     ensures fixed { (state.new.bits ≡ state.old.bits) × (state.new.rows ≡ state.old.rows) × (state.new.start ≡ state.old.start) }
 {
+    state.is_sound();
     for event in events {
         state.step(event)?;
     }

@@ -5,7 +5,7 @@ ghost use Rattle.board_core.specs.Lists.{IsIn, times};
 ghost use Rattle.board_core.specs.Rows.{codes_of};
 
 use crate::event::{Answer, Event};
-use crate::lay::{codes_in, free_slots, lay_rows};
+use crate::lay::{codes_in, first_slots};
 use crate::row::KeptRow;
 use crate::store::Store;
 use std::alloc::Global;
@@ -52,11 +52,17 @@ impl BoardState {
         ensures start { IfOk result (IsStart bits kept.now due.now) }
         ensures sound { IfOk result IsSoundMachine }
     {
-        let mut slots = free_slots(alloc, bits)?;
-        lay_rows(slots.as_mut_slice(), bits, kept, due);
+        let slots = first_slots(alloc, bits, kept, due)?;
         let start = codes_in(alloc, kept)?;
         let store = Store::new(alloc, bits, slots, due, start)?;
         Ok(BoardState { store })
+    }
+
+    /// Every state is sound.
+    pub fn is_sound(&self)
+        ensures { IsSoundMachine self.now }
+    {
+        let _store = &self.store;
     }
 
     /// Takes one event. It is `NotEnabled` exactly where the event is not enabled, and then nothing changes; nor
