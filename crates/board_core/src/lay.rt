@@ -25,8 +25,8 @@ fn free_slots(alloc: Global, bits: u64) -> Result<Vec<Slot>, OutOfMemory>
     Ok(vec![in alloc; free; slots_of(bits) as usize]?)
 }
 
-/// The codes of the rows.
-pub(crate) fn codes_in(alloc: Global, kept: &[KeptRow]) -> Result<Vec<u64>, OutOfMemory>
+/// The codes of the rows, in their order.
+pub fn codes_in(alloc: Global, kept: &[KeptRow]) -> Result<Vec<u64>, OutOfMemory>
     ensures { IfOk result (λ v. v.items ≡ codes_of kept.now) }
 {
     let mut all = Vec::new(alloc);

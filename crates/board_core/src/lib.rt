@@ -30,6 +30,7 @@ pub use actor::{Actor, Hand};
 pub use due::Due;
 pub use event::{Answer, Event};
 pub use home::{home_of, slots_of};
+pub use lay::codes_in;
 pub use row::{KeptRow, Words};
 pub use runs::run_events;
 pub use slot::Slot;
