@@ -10,3 +10,4 @@ pub mod Schedules
 pub mod Pigeons
 pub mod Laying
 pub mod Lasting
+pub mod Happening

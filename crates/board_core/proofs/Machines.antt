@@ -44,7 +44,7 @@ same_of a b e = grind (arith, nat_tests)
 pub other_of : (a b : ℕ) → not (a == b) ≡ true → a ≢ b
 other_of a b e h = true≢false (sym e ∙ ap not (eq-eqb a b h))
 
-saw_other : (x s : ℕ) (seen : List (ℕ × ℕ)) → has_seen_other x s seen ≡ true → (y : ℕ) × IsIn (s, y) seen × (y ≢ x)
+pub saw_other : (x s : ℕ) (seen : List (ℕ × ℕ)) → has_seen_other x s seen ≡ true → (y : ℕ) × IsIn (s, y) seen × (y ≢ x)
 saw_other x s [] e = absurd (true≢false (sym e))
 saw_other x s (p ∷ ps) e = ⊎_elim
     (λ (h : ((p.0 == s) && not (p.1 == x)) ≡ true).
@@ -53,14 +53,14 @@ saw_other x s (p ∷ ps) e = ⊎_elim
     (λ (h : has_seen_other x s ps ≡ true). let o = saw_other x s ps h in (o.0, inr o.1, o.2))
     (or_cases ((p.0 == s) && not (p.1 == x)) (has_seen_other x s ps) e)
 
-path_of : (bits x : ℕ) (seen : List (ℕ × ℕ)) (n j : ℕ) → path_seen bits x seen n ≡ true → j < n → has_seen_other x ((home_slot bits x + j) % 2 ^ bits) seen ≡ true
+pub path_of : (bits x : ℕ) (seen : List (ℕ × ℕ)) (n j : ℕ) → path_seen bits x seen n ≡ true → j < n → has_seen_other x ((home_slot bits x + j) % 2 ^ bits) seen ≡ true
 path_of bits x seen zero j e lt = absurd (omega arith)
 path_of bits x seen (suc n) j e lt = ⊎_elim
     (λ (h : j ≡ n). subst (λ (k : ℕ). has_seen_other x ((home_slot bits x + k) % 2 ^ bits) seen ≡ true) (sym h) (and_left (has_seen_other x ((home_slot bits x + n) % 2 ^ bits) seen) (path_seen bits x seen n) e))
     (λ (h : j ≢ n). path_of bits x seen n j (and_right (has_seen_other x ((home_slot bits x + n) % 2 ^ bits) seen) (path_seen bits x seen n) e) (omega arith))
     (cases_eq j n)
 
-code_of : (x : ℕ) (rows : List KeptRow) → has_code x rows ≡ true → IsIn x (codes_of rows)
+pub code_of : (x : ℕ) (rows : List KeptRow) → has_code x rows ≡ true → IsIn x (codes_of rows)
 code_of x [] e = absurd (true≢false (sym e))
 code_of x (r ∷ rs) e = ⊎_elim (λ (h : (r.code == x) ≡ true). inl (sym (same_of r.code x h))) (λ (h : has_code x rs ≡ true). inr (code_of x rs h)) (or_cases (r.code == x) (has_code x rs) e)
 
@@ -90,7 +90,7 @@ pub free_hand : (o : Option Hand) → is_empty_hand o ≡ true → o ≡ None
 free_hand None e = refl
 free_hand (Some h) e = absurd (true≢false (sym e))
 
-path_reaches : (m : Machine) (a : Actor) (x s : ℕ) → m.bits ≤ 24 → s < 2 ^ m.bits → path_seen m.bits x a.seen (distance m.bits x s) ≡ true → Reaches (machine_terms m) (SawOther a x) x s
+pub path_reaches : (m : Machine) (a : Actor) (x s : ℕ) → m.bits ≤ 24 → s < 2 ^ m.bits → path_seen m.bits x a.seen (distance m.bits x s) ≡ true → Reaches (machine_terms m) (SawOther a x) x s
 path_reaches m a x s few lt e =
     let n : ℕ = 2 ^ m.bits in
     let h : ℕ = home_slot m.bits x in
@@ -100,7 +100,7 @@ path_reaches m a x s few lt e =
     (i, small, sym (spot_distance n h s below lt), λ j less. saw_other x ((h + j) % n) a.seen (path_of m.bits x a.seen i j e less))
 
 -- the slots of the machine after a code was placed
-cells_placed : (m : Machine) (s x : ℕ) → s < length m.slots
+pub cells_placed : (m : Machine) (s x : ℕ) → s < length m.slots
     → machine_cells (with_slot_at m s (record { code = x; filled = (slot_at m s).filled; words = (slot_at m s).words })) ≡ placed (machine_cells m) s x
 cells_placed m s x lt = λ i. record { code = λ u. code u i; state = λ u. state u i; row = λ u at. row u at i }
   where
@@ -279,7 +279,7 @@ module _ (m : Machine) (s : ℕ) (v : Slot) (lt : s < length m.slots) where
   pub same_reading : {A : Type 0} (f : Slot → A) (u : ℕ) → f v ≡ f (slot_at m s) → f (at_slot u) ≡ f (slot_at m u)
   same_reading f u e = ⊎_elim (λ (h : u ≡ s). ap f (at_here u h) ∙ e ∙ ap (λ k. f (slot_at m k)) (sym h)) (λ (n : u ≢ s). ap f (at_else u n)) (cases_eq u s)
 
-cells_written : (m : Machine) (s at x : ℕ) → s < length m.slots → at < length (slot_at m s).words
+pub cells_written : (m : Machine) (s at x : ℕ) → s < length m.slots → at < length (slot_at m s).words
     → machine_cells (with_slot_at m s (record { code = (slot_at m s).code; filled = (slot_at m s).filled; words = slice_set (slot_at m s).words at x })) ≡ written (machine_cells m) s at x
 unfolding at_slot
 cells_written m s at x lt small =
@@ -294,7 +294,7 @@ cells_written m s at x lt small =
     (λ n. put_else (λ (w : ℕ). old w k) s (slice_index (slice_set (slot_at m s).words at x) k) u n) in
     λ i. record { code = λ u. same_reading m s v lt (λ (w : Slot). w.code) u refl i; state = λ u. same_reading m s v lt state_of u refl i; row = λ u k. row u k i }
 
-cells_published : (m : Machine) (s : ℕ) → s < length m.slots
+pub cells_published : (m : Machine) (s : ℕ) → s < length m.slots
     → machine_cells (with_slot_at m s (record { code = (slot_at m s).code; filled = true; words = (slot_at m s).words })) ≡ published (machine_cells m) s
 unfolding at_slot
 cells_published m s lt =
@@ -315,7 +315,7 @@ hand_lives t c vs k h w e = ⊎_elim
     (λ (s : get_or vs k spent ≡ spent). let g : (get_or vs k spent).hand ≡ None = ap (λ (a : Actor). a.hand) s in absurd (cc))
     (elem_or_spent vs k)
 
-written_is : (o : Option Hand) (h : Hand) → o ≡ Some h → written_of o ≡ h.written
+pub written_is : (o : Option Hand) (h : Hand) → o ≡ Some h → written_of o ≡ h.written
 written_is o h e = ap written_of e
 
 pub after_write : (m : Machine) (k s at : ℕ) → IsSoundMachine m → IsSoundMachine (after m (WriteWord k s at))
@@ -343,7 +343,7 @@ pub is_in_of : (x : ℕ) (xs : List ℕ) → has x xs ≡ true → IsIn x xs
 is_in_of x [] e = absurd (true≢false (sym e))
 is_in_of x (y ∷ ys) e = ⊎_elim (λ (h : (y == x) ≡ true). inl (sym (same_of y x h))) (λ (h : has x ys ≡ true). inr (is_in_of x ys h)) (or_cases (y == x) (has x ys) e)
 
-written_all : (n : ℕ) (l : List ℕ) (at : ℕ) → all_written n l ≡ true → at < n → IsIn at l
+pub written_all : (n : ℕ) (l : List ℕ) (at : ℕ) → all_written n l ≡ true → at < n → IsIn at l
 written_all zero l at e lt = absurd (omega arith)
 written_all (suc n) l at e lt = ⊎_elim
     (λ (h : at ≡ n). subst (λ (k : ℕ). IsIn k l) (sym h) (is_in_of n l (and_left (has n l) (all_written n l) e)))
@@ -373,7 +373,7 @@ after_publish m k s h =
 if_filled : (b : Bool) (x y : Machine) → (b ≡ true → IsSoundMachine x) → IsSoundMachine y → IsSoundMachine (if b then x else y)
 if_filled = if_enabled
 
-seen_of : (s : ℕ) (seen : List (ℕ × ℕ)) → has_seen s seen ≡ true → (x : ℕ) × IsIn (s, x) seen
+pub seen_of : (s : ℕ) (seen : List (ℕ × ℕ)) → has_seen s seen ≡ true → (x : ℕ) × IsIn (s, x) seen
 seen_of s [] e = absurd (true≢false (sym e))
 seen_of s (p ∷ ps) e = ⊎_elim (λ (h : (p.0 == s) ≡ true). (p.1, inl (λ i. (sym (same_of p.0 s h) i, p.1)))) (λ (h : has_seen s ps ≡ true). let o = seen_of s ps h in (o.0, inr o.1)) (or_cases (p.0 == s) (has_seen s ps) e)
 

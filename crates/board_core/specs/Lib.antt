@@ -5,3 +5,4 @@ pub mod Events
 pub mod Machine
 pub mod Start
 pub mod Laid
+pub mod Happens

@@ -31,7 +31,8 @@ impl Model for BoardState {
 
 impl BoardState {
     ghost use Rattle.board_core.specs.Start.{IsStart};
-    ghost use Rattle.board_core.specs.Machine.{enabled, answer, after, IsSoundMachine};
+    ghost use Rattle.board_core.specs.Machine.{enabled, answer, after, machine_terms, IsSoundMachine};
+    ghost use Rattle.board_core.specs.Happens.{Happens, moment, number};
     ghost use Rattle.board_core.specs.declared.event.Answer.TheVariants.{NotEnabled};
 
     /// A store of `2^bits` slots, bits from 1 to 24, over the codes of the due rows. The kept rows are placed in
@@ -72,6 +73,7 @@ impl BoardState {
         ensures state { OnOk result (self.new ≡ after self.old event.now) }
         ensures err { OnErr result (self.new ≡ self.old) }
         ensures refused { IfOk result (λ a. (a ≡ NotEnabled) ↔ (enabled self.old event.now ≡ false)) }
+        ensures happens { IfOk result (λ a. a ≢ NotEnabled → Happens (machine_terms self.old) event.now (number a) (moment self.old) (moment self.new)) }
         ensures unchanged { IfOk result (λ a. a ≡ NotEnabled → self.new ≡ self.old) }
         ensures sound { IsSoundMachine self.new }
     {
