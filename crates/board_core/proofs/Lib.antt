@@ -2,7 +2,7 @@ pub mod Parts
 pub mod Homes
 pub mod Lists
 pub mod Keeps
-pub mod Tests
+pub mod PathSeen
 pub mod Machines
 pub mod Begins
 pub mod Sets
@@ -11,3 +11,4 @@ pub mod Pigeons
 pub mod Laying
 pub mod Lasting
 pub mod Happening
+pub mod WorkedRows

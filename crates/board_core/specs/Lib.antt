@@ -6,3 +6,4 @@ pub mod Machine
 pub mod Start
 pub mod Laid
 pub mod Happens
+pub mod Trial

@@ -1,6 +1,6 @@
 use Rattle.std.proofs.Common.{◌≡◌, ℕ, ◌+◌, ◌-◌, ◌%◌, ◌^◌, Bool, true, false, ◌&&◌, List, sym, refl, ap, ◌∙◌, arith, subst}
 use Rattle.board_core.specs.Machine.{path_seen}
-use Rattle.board_core.proofs.Tests.{path_step}
+use Rattle.board_core.proofs.PathSeen.{path_step}
 use Rattle.board_core.proofs.enabled.path_seen.Goals as goal
 
 pub returns-then-not-saw_other : goal.returns-then-not-saw_other
