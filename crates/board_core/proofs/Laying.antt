@@ -121,11 +121,6 @@ not_before kept k d lt once = let two = twice kept k d lt in let one = once (get
     twice (r ∷ rs) zero e less = subst (λ (b : Bool). 0 + 1 ≤ (if b then 1 else 0) + times r.code (codes_of rs)) (sym (eq-eqb r.code r.code refl)) (omega arith)
     twice (r ∷ rs) (suc i) e less = let rest = twice rs i e (omega arith) in omega arith
 
-pub row_in : (kept : List KeptRow) (k : ℕ) (d : KeptRow) → k < length kept → IsIn (get_or kept k d) kept
-row_in [] k d lt = absurd (omega arith)
-row_in (r ∷ rs) zero d lt = inl refl
-row_in (r ∷ rs) (suc k) d lt = inr (row_in rs k d (omega arith))
-
 -- the slots as the code finds and changes them
 pub lays : (bits : ℕ) (before slots : List Slot) (row : KeptRow) (i home count : ℕ) (words : List ℕ) → home ≡ home_slot bits row.code → count ≡ 2 ^ bits → slots ≡ before → words ≡ words_of row.words
     → (P : List Slot → Type 0) → P (slice_set before ((home_slot bits row.code + i) % 2 ^ bits) (filled_slot row)) → P (slice_set slots ((home + i) % count) (record { code = row.code; filled = true; words = words }))

@@ -3,11 +3,12 @@ use Rattle.board_core.specs.declared.row.KeptRow.{KeptRow}
 use Rattle.board_core.specs.Rows.{codes_of}
 use Rattle.board_core.specs.Start.{LaysRows}
 use Rattle.board_core.specs.Laid.{IsLaid}
-use Rattle.board_core.proofs.Laying.{row_in, not_before, codes_more, lays_more}
+use Rattle.board_core.proofs.Lists.{is_in_at}
+use Rattle.board_core.proofs.Laying.{not_before, codes_more, lays_more}
 use Rattle.board_core.proofs.lay.lay_rows.Goals as goal
 
 pub lay_row-requires-clause-row : goal.lay_row-requires-clause-row
-lay_row-requires-clause-row c = (c.requires.due _ (row_in c.args.kept.now c.loop-k.k _ (omega arith)), not_before c.args.kept.now c.loop-k.k _ (omega arith) c.requires.once)
+lay_row-requires-clause-row c = (c.requires.due _ (is_in_at c.args.kept.now c.loop-k.k _ (omega arith)), not_before c.args.kept.now c.loop-k.k _ (omega arith) c.requires.once)
 
 pub loop-k-preserved : goal.loop-k-preserved
 loop-k-preserved c =
