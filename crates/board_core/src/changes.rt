@@ -14,9 +14,7 @@ pub(crate) fn see(actor: &mut Actor, slot: u64, code: u64) -> Result<(), OutOfMe
     ensures ok { OnOk result (actor.new ≡ sees actor.old slot code) }
     ensures err { OnErr result (actor.new ≡ actor.old) }
 {
-    if actor.seen.push_front((slot, code)).is_err() {
-        return Err(OutOfMemory);
-    }
+    actor.seen.push_front((slot, code))?;
     Ok(())
 }
 
@@ -25,9 +23,7 @@ pub(crate) fn take(alloc: Global, actor: &mut Actor, slot: u64, code: u64) -> Re
     ensures ok { OnOk result (actor.new ≡ takes actor.old slot code) }
     ensures err { OnErr result (actor.new ≡ actor.old) }
 {
-    if actor.seen.push_front((slot, code)).is_err() {
-        return Err(OutOfMemory);
-    }
+    actor.seen.push_front((slot, code))?;
     if actor.made.push_back(slot).is_err() {
         actor.seen.pop_front();
         return Err(OutOfMemory);
@@ -46,7 +42,7 @@ pub(crate) fn mark(actor: &mut Actor, slot: u64, at: u64) -> Result<(), OutOfMem
     ensures err { OnErr result (actor.new ≡ actor.old) }
 {
     let Some(Hand { slot, mut written }) = actor.hand.take() else {
-        return Err(OutOfMemory);
+        unreachable!()
     };
     let failed = written.push_front(at).is_err();
     actor.hand = Some(Hand { slot, written });
@@ -61,9 +57,7 @@ pub(crate) fn learn(actor: &mut Actor, slot: u64) -> Result<(), OutOfMemory>
     ensures ok { OnOk result (actor.new ≡ learns actor.old slot) }
     ensures err { OnErr result (actor.new ≡ actor.old) }
 {
-    if actor.known.push_front(slot).is_err() {
-        return Err(OutOfMemory);
-    }
+    actor.known.push_front(slot)?;
     Ok(())
 }
 
@@ -81,17 +75,11 @@ pub(crate) fn fill(actor: &mut Actor, slot: u64) -> Result<(), OutOfMemory>
 pub(crate) fn copy_of(alloc: Global, actor: &Actor, part: u64) -> Result<Actor, OutOfMemory>
     ensures { IfOk result (λ a. a ≡ copy_of actor.now part) }
 {
-    let Ok(seen) = actor.seen.clone() else {
-        return Err(OutOfMemory);
-    };
-    let Ok(known) = actor.known.clone() else {
-        return Err(OutOfMemory);
-    };
     Ok(Actor {
         living: true,
         share: part,
-        seen,
-        known,
+        seen: actor.seen.clone()?,
+        known: actor.known.clone()?,
         made: LinkedList::new(alloc),
         hand: None,
     })

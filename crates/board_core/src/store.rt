@@ -199,9 +199,7 @@ impl Store {
             return Ok(Answer::NotEnabled);
         }
         let other = copy_of(self.alloc, a, part)?;
-        if self.actors.push(other).is_err() {
-            return Err(OutOfMemory);
-        }
+        self.actors.push(other)?;
         self.actors[actor as usize].share -= part;
         Ok(Answer::Moved)
     }
