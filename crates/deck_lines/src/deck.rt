@@ -15,7 +15,7 @@ use wasp_fixed::OutOfMemory;
 
 /// The statements that stand, each head once. Contracts see the list of the statements, each in its
 /// form, in the order in which their heads were first set.
-#[derive(Debug, Drop)]
+#[derive(Clone, Debug, Drop)]
 pub struct Deck {
     statements: Vec<Statement>,
 }
