@@ -1,0 +1,49 @@
+//! What plants, candidates and groups are called.
+ghost use Rattle.std.specs.Prelude.{◌≡◌, IsTrue};
+ghost use Rattle.deck_lines.specs.Statements.{is_name};
+
+use std::marker::Model;
+
+/// A plant, a thermal candidate or a hydro group, by its number.
+#[derive(Clone, Copy, Debug, PartialEq, Eq)]
+pub enum PlantId {
+    /// An existing plant, 1 to 40.
+    Existing(u64),
+    /// A thermal candidate, 1 to 12.
+    Thermal(u64),
+    /// A hydro group, 1 or 2.
+    Hydro(u64),
+}
+
+/// A name of 1 to 8 letters, digits, `_` and `-`, which contracts see as its bytes.
+#[derive(Clone, Copy, Debug)]
+pub struct Name {
+    /// The bytes, and zeros from `len` on.
+    bytes: [u8; 8],
+    len: usize,
+}
+
+impl Model for Name {
+    ghost use Rattle.std.specs.Prelude.{List, ℕ, take};
+    ghost use Rattle.deck_check.specs.Names.{IsPadded, padded, padded_back};
+
+    ghost Value = { List ℕ };
+
+    ghost view = { λ n. take n.len n.bytes };
+
+    ghost invariant = { λ n. IsPadded n.bytes n.len };
+
+    ghost inverse = { padded };
+
+    ghost inverse_ok = { padded_back };
+}
+
+impl Name {
+    /// The bytes of the name.
+    pub fn as_bytes(&self) -> &[u8]
+        ensures value { result.now ≡ self.now }
+        ensures name { IsTrue (is_name self.now) }
+    {
+        &self.bytes[..self.len]
+    }
+}
