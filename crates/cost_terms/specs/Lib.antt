@@ -1,0 +1,5 @@
+pub mod Cost
+pub mod CostData
+pub mod Factors
+pub mod Table
+pub mod Totals

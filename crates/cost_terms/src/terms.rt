@@ -1,0 +1,134 @@
+//! The terms of a year's cost.
+ghost use Rattle.std.specs.Prelude.{◌≡◌, ◌+◌, ◌-◌, ◌*◌, ◌/◌, ◌^◌, ◌<◌, ◌≤◌};
+ghost use Rattle.plant_data.specs.Configs.{IsAtMost};
+ghost use Rattle.cost_terms.specs.Cost.{build, fuel, salvage, stock, unserved, upkeep};
+ghost use Rattle.cost_terms.specs.CostData.{Fits, IsRow};
+
+use crate::additions::{Horizon, group_totals, thermal_totals};
+use crate::economy::Economy;
+use crate::running::{fixed_of, unserved_cents};
+use plant_data::{Config, Row};
+use wasp_fixed::{ONE, mul_div_floor};
+
+/// What the additions of a year cost, in dollars of present worth at the beginning of year 1.
+#[derive(Clone, Copy, Debug, PartialEq, Eq)]
+pub struct Built {
+    /// The investment.
+    pub build: u64,
+    /// The worth of what outlives the horizon, at most the investment.
+    pub salvage: u64,
+    /// The fuel inventory, less what comes back at the horizon.
+    pub stock: u64,
+}
+
+/// What running a configuration for a year costs, in dollars of present worth at the beginning of year 1.
+#[derive(Clone, Copy, Debug, PartialEq, Eq)]
+pub struct Ran {
+    /// Fuel in both currencies.
+    pub fuel: u64,
+    /// Operation and maintenance, fixed and variable.
+    pub upkeep: u64,
+    /// Energy not served.
+    pub unserved: u64,
+}
+
+impl Built {
+    /// The investment less salvage, with the fuel inventory.
+    pub fn net(&self) -> u64
+        requires salvage { self.now.salvage ≤ self.now.build }
+        requires fits { self.now.build + self.now.stock < 2 ^ 64 }
+        ensures { result ≡ self.now.build - self.now.salvage + self.now.stock }
+    {
+        self.build - self.salvage + self.stock
+    }
+}
+
+impl Ran {
+    /// All of it.
+    pub fn total(&self) -> u64
+        requires { self.now.fuel + self.now.upkeep + self.now.unserved < 2 ^ 64 }
+        ensures { result ≡ self.now.fuel + self.now.upkeep + self.now.unserved }
+    {
+        self.fuel + self.upkeep + self.unserved
+    }
+}
+
+/// Two amounts, each times a factor, in parts of `whole`: one floor for their sum.
+fn both_worth(domestic: u64, factor: u64, foreign: u64, factor_abroad: u64, whole: u64) -> u64
+    requires whole { 1 ≤ whole }
+    requires fits { (domestic * factor + foreign * factor_abroad) / whole < 2 ^ 64 }
+    requires room { domestic * factor + foreign * factor_abroad < 2 ^ 128 }
+    ensures { result ≡ (domestic * factor + foreign * factor_abroad) / whole }
+{
+    let sum = u128::from(domestic) * u128::from(factor) + u128::from(foreign) * u128::from(factor_abroad);
+    (sum / u128::from(whole)) as u64
+}
+
+/// The terms of the additions of a year, counted from 1, from the counts before it to those after. It takes
+/// no memory and never refuses.
+pub fn build_cost(economy: &Economy, year: u64, before: &Config, after: &Config) -> Built
+    requires first { 1 ≤ year }
+    requires last { year ≤ economy.now.years }
+    requires before { Fits economy.now before.now }
+    requires after { Fits economy.now after.now }
+    requires grows { IsAtMost before.now after.now }
+    ensures build { result.build ≡ build economy.now year before.now after.now }
+    ensures salvage { result.salvage ≡ salvage economy.now year before.now after.now }
+    ensures stock { result.stock ≡ stock economy.now year before.now after.now }
+    ensures regained { result.salvage ≤ result.build }
+    ensures small { result.build + result.stock ≤ 10 ^ 16 }
+{
+    let costs = economy.costs();
+    let factors = economy.factors();
+    let now = (year - 1) as usize;
+    let end = costs.years as usize;
+    let horizon = Horizon {
+        ahead: costs.years - year + 1,
+        domestic: factors.end_domestic[end],
+        foreign: factors.end_foreign[end],
+    };
+    let thermal = thermal_totals(costs, before, after, &horizon);
+    let totals = group_totals(costs, before, after, &horizon, thermal);
+    let held = factors.end_domestic[now] - horizon.domestic;
+    Built {
+        build: both_worth(
+            totals.domestic,
+            factors.end_domestic[now],
+            totals.foreign,
+            factors.end_foreign[now],
+            ONE,
+        ),
+        salvage: totals.salvage,
+        stock: mul_div_floor(totals.inventory, held, ONE),
+    }
+}
+
+/// The terms of running a configuration for a year, counted from 1, with its row. It takes no memory and
+/// never refuses.
+pub fn run_cost(economy: &Economy, year: u64, config: &Config, row: &Row) -> Ran
+    requires first { 1 ≤ year }
+    requires last { year ≤ economy.now.years }
+    requires fits { Fits economy.now config.now }
+    requires row { IsRow row.now }
+    ensures fuel { result.fuel ≡ fuel economy.now year row.now }
+    ensures upkeep { result.upkeep ≡ upkeep economy.now year config.now row.now }
+    ensures unserved { result.unserved ≡ unserved economy.now year row.now }
+    ensures small { result.fuel + result.upkeep + result.unserved ≤ 10 ^ 16 }
+{
+    let costs = economy.costs();
+    let factors = economy.factors();
+    let now = (year - 1) as usize;
+    let middle = factors.middle[now];
+    let cents = 12_000 * fixed_of(costs, year, config) + row.variable;
+    Ran {
+        fuel: both_worth(
+            row.fuel_domestic,
+            factors.fuel_domestic[now],
+            row.fuel_foreign,
+            factors.fuel_foreign[now],
+            100_000 * ONE,
+        ),
+        upkeep: mul_div_floor(cents, middle, 100 * ONE),
+        unserved: mul_div_floor(unserved_cents(costs, year, row), middle, 100 * ONE),
+    }
+}
