@@ -1,4 +1,5 @@
 pub mod DeckFault
+pub mod Economy
 pub mod FaultTable
 pub mod Forms
 pub mod Names

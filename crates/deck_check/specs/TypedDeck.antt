@@ -13,6 +13,8 @@ use Rattle.plant_data.specs.declared.row.Margin.{Margin}
 use Rattle.plant_data.specs.declared.row.Tunnel.{Tunnel}
 use Rattle.deck_check.specs.DeckFault.{HasNoFault}
 use Rattle.deck_check.specs.Readings.{Says, is_there, numbers, number, width}
+use Rattle.deck_check.specs.declared.cases.CaseWord.{CaseWord}
+use Rattle.deck_check.specs.declared.cases.CaseWord.TheVariants as words
 use Rattle.deck_check.specs.declared.names.PlantId.{PlantId}
 use Rattle.deck_check.specs.declared.names.PlantId.TheVariants as ids
 
@@ -25,6 +27,12 @@ pub record IsTyped (deck : List Statement) : Type 0 where
 abbrev pub year_of : Says → (ℕ → Head) → ℕ → ℕ
 year_of d head zero = 0
 year_of d head (suc t) = if is_there d (head (suc t)) then suc t else year_of d head t
+
+-- the statement of a case and a year
+abbrev pub head_at : CaseWord → ℕ → ℕ → Head
+head_at words.Tunnel c t = heads.Tunnel c t
+head_at words.Margin c t = heads.Margin c t
+head_at words.Lolp c t = heads.Lolp c t
 
 -- the head that holds
 abbrev pub head_in : Says → (ℕ → Head) → ℕ → Head

@@ -11,9 +11,11 @@
 #![tactic(auto)]
 
 mod candidates;
-
+mod cases;
+mod economy;
 mod fault;
 mod names;
+mod parts;
 mod plants;
 mod readings;
 mod rows;
@@ -22,6 +24,6 @@ mod spans;
 mod table;
 mod typed;
 
-pub use typed::{TypedDeck, check};
 pub use fault::{CheckError, DeckFault};
 pub use names::{Name, PlantId};
+pub use typed::{TypedDeck, check};

@@ -1,5 +1,5 @@
 //! What plants, candidates and groups are called.
-ghost use Rattle.std.specs.Prelude.{◌≡◌, IsTrue};
+ghost use Rattle.std.specs.Prelude.{◌≡◌, ◌≤◌, IsTrue, length, take, drop};
 ghost use Rattle.deck_lines.specs.Statements.{is_name};
 
 use std::marker::Model;
@@ -45,5 +45,31 @@ impl Name {
         ensures name { IsTrue (is_name self.now) }
     {
         &self.bytes[..self.len]
+    }
+}
+
+/// Writes a text at the start of a row of eight.
+fn write_bytes(text: &[u8], bytes: &mut [u8])
+    requires fits { length text.now ≤ length bytes.old }
+    ensures front { take (length text.now) bytes.new ≡ text.now }
+    ensures rest { drop (length text.now) bytes.new ≡ drop (length text.now) bytes.old }
+{
+    for i in 0..text.len() {
+        bytes[i] = text[i];
+    }
+}
+
+impl Name {
+    /// The name with these bytes.
+    pub(crate) fn new(text: &[u8]) -> Name
+        requires { IsTrue (is_name text.now) }
+        ensures { result ≡ text.now }
+    {
+        let mut bytes = [0; 8];
+        write_bytes(text, &mut bytes);
+        Name {
+            bytes,
+            len: text.len(),
+        }
     }
 }
