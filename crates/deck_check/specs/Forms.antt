@@ -25,3 +25,9 @@ top kinds.Periods = 12
 pub record IsFormOf (h : Head) (ns : List ℕ) : Type 0 where
   pub most : (i : ℕ) → slice_index ns i ≤ top (kind_at (form_of h) i)
   pub few : length ns ≤ (form_of h).most * length (form_of h).group
+
+-- those of a statement that stands: no number is below the least that can stand in its place, and there are
+-- not too few
+pub record IsFilled (h : Head) (ns : List ℕ) : Type 0 where
+  pub low : (i : ℕ) → i < length ns → bottom (kind_at (form_of h) i) ≤ slice_index ns i
+  pub some : (form_of h).least * length (form_of h).group ≤ length ns

@@ -47,7 +47,7 @@ abbrev pub number_or : Says → Head → ℕ → ℕ
 number_or d h default = if is_there d h then number d h 0 else default
 
 -- the numbers from 1 to n
-abbrev pub first : ℕ → List ℕ
+unfoldable pub first : ℕ → List ℕ
 first n = range_with_len 1 n
 
 -- ---- single statements

@@ -6,7 +6,7 @@ ghost use Rattle.year_system.specs.System.{size};
 ghost use Rattle.deck_check.specs.Readings as spec;
 
 use crate::plants::{GROUPS, THERMAL, greatest_units};
-use crate::readings::{is_there, number, number_at};
+use crate::readings::{is_there, number};
 use deck_lines::{Deck, Head};
 use plant_data::MAX_WIDTH;
 
@@ -15,7 +15,8 @@ const CONFIGS: u64 = 1 << 50;
 
 /// Writes the greatest counts of the thermal candidates at the start of the room, and answers how many
 /// there are.
-fn write_thermal(deck: &Deck, room: &mut [u64]) -> usize
+#[tactic(auto, using(crate::proofs::Firsts::first_none, crate::proofs::Firsts::kept_more_yes, crate::proofs::Firsts::kept_more_no))]
+fn write_thermal(deck: &Deck, room: &mut [u8]) -> usize
     requires { length room.old ≡ 14 }
     ensures value { take result room.new ≡ map (λ k. spec.number (body_of deck.now) (heads.Thermal k) 0) (spec.thermal_numbers (body_of deck.now)) }
     ensures few { result ≤ 12 }
@@ -23,7 +24,7 @@ fn write_thermal(deck: &Deck, room: &mut [u64]) -> usize
     let mut at = 0;
     for k in 0..THERMAL {
         if is_there(deck, Head::Thermal(k + 1)) {
-            room[at] = greatest_units(deck, k + 1);
+            room[at] = greatest_units(deck, k + 1) as u8;
             at += 1;
         }
     }
@@ -31,7 +32,8 @@ fn write_thermal(deck: &Deck, room: &mut [u64]) -> usize
 }
 
 /// Writes the greatest counts of the hydro groups from a place of the room on.
-fn write_groups(deck: &Deck, from: usize, room: &mut [u64]) -> usize
+#[tactic(auto, using(crate::proofs::Firsts::first_none, crate::proofs::Firsts::kept_more_yes, crate::proofs::Firsts::kept_more_no))]
+fn write_groups(deck: &Deck, from: usize, room: &mut [u8]) -> usize
     requires room { length room.old ≡ 14 }
     requires from { from ≤ 12 }
     ensures value { take result room.new ≡ take from room.old ++ map (λ g. spec.number (body_of deck.now) (heads.Hydro g) 1) (spec.group_numbers (body_of deck.now)) }
@@ -40,7 +42,7 @@ fn write_groups(deck: &Deck, from: usize, room: &mut [u64]) -> usize
     let mut at = from;
     for g in 0..GROUPS {
         if is_there(deck, Head::Hydro(g + 1)) {
-            room[at] = number(deck, Head::Hydro(g + 1), 1);
+            room[at] = number(deck, Head::Hydro(g + 1), 1) as u8;
             at += 1;
         }
     }
@@ -48,7 +50,7 @@ fn write_groups(deck: &Deck, from: usize, room: &mut [u64]) -> usize
 }
 
 /// Writes the greatest counts of all candidates at the start of the room, and answers how many there are.
-fn write_greatest(deck: &Deck, room: &mut [u64]) -> usize
+fn write_greatest(deck: &Deck, room: &mut [u8]) -> usize
     requires { length room.old ≡ 14 }
     ensures value { take result room.new ≡ spec.greatest (body_of deck.now) }
     ensures few { result ≤ 14 }
@@ -71,16 +73,21 @@ pub fn greatest_at(deck: &Deck, place: usize) -> u64
 {
     let mut room = [0; MAX_WIDTH];
     let width = write_greatest(deck, &mut room);
-    number_at(&room[..width], place)
+    if place < width {
+        u64::from(room[place])
+    } else {
+        0
+    }
 }
 
 /// Whether there are more configurations up to these counts than codes have room for.
-fn are_many(greatest: &[u64]) -> bool
+#[tactic(auto, using(crate::proofs::Sizes::size_more, crate::proofs::Sizes::size_part))]
+fn are_many(greatest: &[u8]) -> bool
     ensures { result ≡ nat_lt (2 ^ 50) (size greatest.now) }
 {
-    let mut size = 1;
+    let mut size: u64 = 1;
     for count in greatest {
-        size *= *count + 1;
+        size *= u64::from(*count) + 1;
         if size > CONFIGS {
             return true;
         }

@@ -4,6 +4,7 @@ ghost use Rattle.deck_lines.specs.Deck.{body_of};
 ghost use Rattle.deck_lines.specs.declared.head.Head.TheVariants as heads;
 ghost use Rattle.deck_check.specs.TypedDeck as spec;
 ghost use Rattle.deck_check.specs.TypedDeck.{IsTyped};
+ghost use Rattle.wasp_fixed.specs.declared.numbers.TheConstants.{ONE};
 
 use crate::candidates::width;
 use crate::readings::{is_there, number, number_at, numbers};
@@ -32,6 +33,7 @@ impl CaseWord {
 }
 
 /// The year whose statement holds in a year, and 0 where there is none.
+#[tactic(auto, using(crate::proofs::YearOf::year_back))]
 fn year_of(deck: &Deck, word: CaseWord, case: u64, year: u64) -> u64
     ensures { result ≡ spec.year_of (body_of deck.now) (spec.head_at word case) year }
 {
@@ -41,13 +43,6 @@ fn year_of(deck: &Deck, word: CaseWord, case: u64, year: u64) -> u64
         }
     }
     0
-}
-
-/// The statement that holds in a year.
-fn head_in(deck: &Deck, word: CaseWord, case: u64, year: u64) -> Head
-    ensures { result ≡ spec.head_in (body_of deck.now) (spec.head_at word case) year }
-{
-    word.head(case, year_of(deck, word, case, year))
 }
 
 /// The first or the second counts of the pairs of a TUNNEL.
@@ -79,9 +74,11 @@ pub fn tunnel_of(deck: &Deck, case: u64, year: u64) -> Tunnel
 
 /// The margins of a case in a year.
 pub fn margin_of(deck: &Deck, case: u64, year: u64) -> Margin
-    ensures { result ≡ spec.margin (body_of deck.now) case year }
+    ensures value { result ≡ spec.margin (body_of deck.now) case year }
+    ensures low { result.low ≤ 100000 }
+    ensures high { result.high ≤ 100000 }
 {
-    let head = head_in(deck, CaseWord::Margin, case, year);
+    let head = Head::Margin(case, year_of(deck, CaseWord::Margin, case, year));
     Margin {
         low: number(deck, head, 0),
         high: number(deck, head, 1),
@@ -90,9 +87,11 @@ pub fn margin_of(deck: &Deck, case: u64, year: u64) -> Margin
 
 /// The limits of a case in a year.
 pub fn limit_of(deck: &Deck, case: u64, year: u64) -> Limit
-    ensures { result ≡ spec.limit (body_of deck.now) case year }
+    ensures value { result ≡ spec.limit (body_of deck.now) case year }
+    ensures worst { result.worst ≤ ONE }
+    ensures average { result.average ≤ ONE }
 {
-    let head = head_in(deck, CaseWord::Lolp, case, year);
+    let head = Head::Lolp(case, year_of(deck, CaseWord::Lolp, case, year));
     Limit {
         worst: number(deck, head, 0),
         average: number(deck, head, 1),

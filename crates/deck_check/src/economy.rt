@@ -1,5 +1,5 @@
 //! The data of the costs, read from a deck that has no fault.
-ghost use Rattle.std.specs.Prelude.{◌≡◌, ◌≤◌, ◌<◌, ◌+◌, ◌/◌, ◌^◌, ◌++◌, map, length, IfOk};
+ghost use Rattle.std.specs.Prelude.{◌≡◌, ◌≤◌, ◌<◌, ◌+◌, ◌-◌, ◌*◌, ◌/◌, ◌^◌, map, IfOk};
 ghost use Rattle.deck_lines.specs.Deck.{body_of};
 ghost use Rattle.deck_check.specs.Economy as spec;
 ghost use Rattle.deck_check.specs.Readings as says;
@@ -52,6 +52,7 @@ fn demand(alloc: Global, deck: &Deck, t: u64) -> Result<u64, OutOfMemory>
 }
 
 /// The demand of each year.
+#[tactic(auto, using(crate::proofs::Firsts::first_none, crate::proofs::Firsts::map_more))]
 fn demands(alloc: Global, deck: &Deck) -> Result<Listed<u64>, OutOfMemory>
     requires { IsTyped deck.now }
     ensures { IfOk result (λ ds. ds ≡ map (spec.demand (body_of deck.now)) (first (says.years (body_of deck.now)))) }
@@ -64,6 +65,7 @@ fn demands(alloc: Global, deck: &Deck) -> Result<Listed<u64>, OutOfMemory>
 }
 
 /// The units of a plant in each year.
+#[tactic(auto, using(crate::proofs::Firsts::first_none, crate::proofs::Firsts::map_more))]
 fn units_by_year(alloc: Global, deck: &Deck, p: u64) -> Result<Listed<u64>, OutOfMemory>
     ensures { IfOk result (λ us. us ≡ map (says.units_in (body_of deck.now) p) (first (says.years (body_of deck.now)))) }
 {
@@ -75,6 +77,7 @@ fn units_by_year(alloc: Global, deck: &Deck, p: u64) -> Result<Listed<u64>, OutO
 }
 
 /// What the existing plants cost.
+#[tactic(auto, using(crate::proofs::Firsts::first_none, crate::proofs::Firsts::kept_more_yes, crate::proofs::Firsts::kept_more_no))]
 fn plant_costs(alloc: Global, deck: &Deck) -> Result<Listed<PlantCost>, OutOfMemory>
     ensures { IfOk result (λ ps. ps ≡ map (spec.plant_cost (body_of deck.now)) (spec.plant_numbers (body_of deck.now))) }
 {
@@ -107,6 +110,7 @@ fn thermal_cost(deck: &Deck, k: u64) -> ThermalCost
 }
 
 /// What the thermal candidates cost.
+#[tactic(auto, using(crate::proofs::Firsts::first_none, crate::proofs::Firsts::kept_more_yes, crate::proofs::Firsts::kept_more_no))]
 fn thermal_costs(alloc: Global, deck: &Deck) -> Result<Listed<ThermalCost>, OutOfMemory>
     ensures { IfOk result (λ ps. ps ≡ map (spec.thermal_cost (body_of deck.now)) (says.thermal_numbers (body_of deck.now))) }
 {
@@ -120,6 +124,7 @@ fn thermal_costs(alloc: Global, deck: &Deck) -> Result<Listed<ThermalCost>, OutO
 }
 
 /// What the projects of a group cost.
+#[tactic(auto, using(crate::proofs::Firsts::first_none, crate::proofs::Firsts::map_more))]
 fn project_costs(alloc: Global, deck: &Deck, g: u64) -> Result<Listed<ProjectCost>, OutOfMemory>
     ensures { IfOk result (λ ps. ps ≡ map (spec.project_cost (body_of deck.now) g) (first (says.projects (body_of deck.now) g))) }
 {
@@ -137,6 +142,7 @@ fn project_costs(alloc: Global, deck: &Deck, g: u64) -> Result<Listed<ProjectCos
 }
 
 /// What the hydro groups cost.
+#[tactic(auto, using(crate::proofs::Firsts::first_none, crate::proofs::Firsts::kept_more_yes, crate::proofs::Firsts::kept_more_no))]
 fn group_costs(alloc: Global, deck: &Deck) -> Result<Listed<GroupCost>, OutOfMemory>
     ensures { IfOk result (λ gs. gs ≡ map (spec.group_cost (body_of deck.now)) (says.group_numbers (body_of deck.now))) }
 {

@@ -20,7 +20,7 @@ pub fn rule_of(deck: &Deck) -> Rule
     ensures { result ≡ spec.rule (body_of deck.now) }
 {
     match deck.get(&Head::Rule) {
-        Some(body) if body.name() == b"BASE" => Rule::BaseFirst,
+        Some(body) if body.name() == b"BASE".as_slice() => Rule::BaseFirst,
         _ => Rule::Merit,
     }
 }
@@ -35,6 +35,7 @@ pub fn weights_of(alloc: Global, deck: &Deck) -> Result<Listed<u64>, OutOfMemory
 }
 
 /// The points of a shape.
+#[tactic(auto, using(crate::proofs::Firsts::from_0_more))]
 fn points_of(alloc: Global, deck: &Deck, s: u64) -> Result<Vec<Point>, OutOfMemory>
     ensures { IfOk result (λ ps. ps.items ≡ spec.points (body_of deck.now) s) }
 {
@@ -66,6 +67,7 @@ pub fn load_of(alloc: Global, deck: &Deck, t: u64, i: usize) -> Result<Load, Out
 }
 
 /// The load of each period of a year.
+#[tactic(auto, using(crate::proofs::Firsts::from_0_more))]
 pub fn loads_of(alloc: Global, deck: &Deck, t: u64) -> Result<Listed<Load>, OutOfMemory>
     requires typed { IsTyped deck.now }
     requires low { 1 ≤ t }
@@ -100,6 +102,7 @@ fn plant_of(deck: &Deck, a: u64, units: u64) -> Plant
 }
 
 /// The existing plants with at least one unit in a year.
+#[tactic(auto, using(crate::proofs::Firsts::first_none, crate::proofs::Firsts::passed_more_yes, crate::proofs::Firsts::passed_more_no))]
 pub fn existing_of(alloc: Global, deck: &Deck, t: u64) -> Result<Listed<Plant>, OutOfMemory>
     requires { t ≤ 30 }
     ensures { IfOk result (λ ps. ps ≡ spec.existing_in (body_of deck.now) t) }
@@ -115,6 +118,7 @@ pub fn existing_of(alloc: Global, deck: &Deck, t: u64) -> Result<Listed<Plant>, 
 }
 
 /// The thermal candidates at their greatest counts.
+#[tactic(auto, using(crate::proofs::Firsts::first_none, crate::proofs::Firsts::kept_more_yes, crate::proofs::Firsts::kept_more_no))]
 pub fn thermal_of(alloc: Global, deck: &Deck) -> Result<Listed<Plant>, OutOfMemory>
     ensures { IfOk result (λ ps. ps ≡ spec.thermal (body_of deck.now)) }
 {
@@ -128,6 +132,7 @@ pub fn thermal_of(alloc: Global, deck: &Deck) -> Result<Listed<Plant>, OutOfMemo
 }
 
 /// Adds the water of a project in a period, under each condition.
+#[tactic(auto, using(crate::proofs::Firsts::from_0_more))]
 fn push_conditions(
     deck: &Deck,
     g: u64,
@@ -149,6 +154,7 @@ fn push_conditions(
 }
 
 /// Adds the water of a project, by period and condition.
+#[tactic(auto, using(crate::proofs::Firsts::first_none, crate::proofs::Firsts::flat_more))]
 fn push_periods(deck: &Deck, g: u64, j: u64, table: &mut Vec<Water>) -> Result<(), OutOfMemory>
     ensures { IfOk result (λ _. table.new.items ≡ table.old.items ++ flat_map (spec.project_water (body_of deck.now) g j) (first (spec.periods (body_of deck.now)))) }
 {
@@ -159,6 +165,7 @@ fn push_periods(deck: &Deck, g: u64, j: u64, table: &mut Vec<Water>) -> Result<(
 }
 
 /// The water of a group's projects, by project, period and condition.
+#[tactic(auto, using(crate::proofs::Firsts::first_none, crate::proofs::Firsts::flat_more))]
 fn water_of(alloc: Global, deck: &Deck, g: u64) -> Result<Listed<Water>, OutOfMemory>
     ensures { IfOk result (λ ws. ws ≡ spec.group_water (body_of deck.now) g) }
 {
@@ -170,6 +177,7 @@ fn water_of(alloc: Global, deck: &Deck, g: u64) -> Result<Listed<Water>, OutOfMe
 }
 
 /// The hydro groups.
+#[tactic(auto, using(crate::proofs::Firsts::first_none, crate::proofs::Firsts::kept_more_yes, crate::proofs::Firsts::kept_more_no))]
 pub fn groups_of(alloc: Global, deck: &Deck) -> Result<Listed<Group>, OutOfMemory>
     ensures { IfOk result (λ gs. gs ≡ spec.groups (body_of deck.now)) }
 {

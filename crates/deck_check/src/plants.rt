@@ -62,6 +62,7 @@ pub fn fuel(deck: &Deck, a: u64) -> u64
 }
 
 /// The units of a plant that stand or come up to a year, that year's included.
+#[tactic(auto, using(crate::proofs::Firsts::first_none, crate::proofs::Firsts::sum_more))]
 pub fn come(deck: &Deck, p: u64, t: u64) -> u64
     requires { t ≤ 30 }
     ensures value { result ≡ spec.come (body_of deck.now) p t }
@@ -75,6 +76,7 @@ pub fn come(deck: &Deck, p: u64, t: u64) -> u64
 }
 
 /// The units of a plant that go up to a year, that year's included.
+#[tactic(auto, using(crate::proofs::Firsts::first_none, crate::proofs::Firsts::sum_more))]
 pub fn gone(deck: &Deck, p: u64, t: u64) -> u64
     requires { t ≤ 30 }
     ensures value { result ≡ spec.gone (body_of deck.now) p t }
@@ -105,6 +107,7 @@ pub fn greatest_units(deck: &Deck, k: u64) -> u64
 }
 
 /// The existing units of a year.
+#[tactic(auto, using(crate::proofs::Firsts::first_none, crate::proofs::Firsts::sum_more))]
 fn standing_units(deck: &Deck, t: u64) -> u64
     requires { t ≤ 30 }
     ensures value { result ≡ sum (map (λ p. spec.units_in (body_of deck.now) p t) (first 40)) }
@@ -118,6 +121,7 @@ fn standing_units(deck: &Deck, t: u64) -> u64
 }
 
 /// The greatest counts of the thermal candidates together.
+#[tactic(auto, using(crate::proofs::Firsts::first_none, crate::proofs::Firsts::sum_more))]
 fn new_units(deck: &Deck) -> u64
     ensures value { result ≡ sum (map (λ k. spec.number (body_of deck.now) (heads.Thermal k) 0) (first 12)) }
     ensures small { result ≤ 1536 }
@@ -139,6 +143,7 @@ pub fn units(deck: &Deck, t: u64) -> u64
 }
 
 /// The full capacity of the existing units of a year in MW.
+#[tactic(auto, using(crate::proofs::Firsts::first_none, crate::proofs::Firsts::sum_more))]
 fn standing_mw(deck: &Deck, t: u64) -> u64
     requires { t ≤ 30 }
     ensures value { result ≡ sum (map (λ p. spec.units_in (body_of deck.now) p t * spec.full (body_of deck.now) p) (first 40)) }
@@ -152,6 +157,7 @@ fn standing_mw(deck: &Deck, t: u64) -> u64
 }
 
 /// The full capacity of the thermal candidates at their greatest counts in MW.
+#[tactic(auto, using(crate::proofs::Firsts::first_none, crate::proofs::Firsts::sum_more))]
 fn new_mw(deck: &Deck) -> u64
     ensures value { result ≡ sum (map (λ k. spec.number (body_of deck.now) (heads.Thermal k) 0 * spec.full (body_of deck.now) (40 + k)) (first 12)) }
     ensures small { result ≤ 4000000000 }

@@ -1,7 +1,7 @@
 //! What a deck says of a head, and the single statements.
-ghost use Rattle.std.specs.Prelude.{◌≡◌, ◌≤◌, ◌+◌, length, slice_index, sum};
+ghost use Rattle.std.specs.Prelude.{◌≡◌, ◌≤◌, ◌<◌, ◌*◌, ℕ, IsTrue, length, slice_index, sum};
 ghost use Rattle.deck_lines.specs.Deck.{IsDeck, body_of};
-ghost use Rattle.deck_check.specs.Forms.{IsFormOf, form_of, kind_at, top};
+ghost use Rattle.deck_check.specs.Forms.{IsFilled, IsFormOf, bottom, form_of, kind_at, top};
 ghost use Rattle.deck_check.specs.Readings as spec;
 
 use deck_lines::{Deck, Head};
@@ -17,9 +17,11 @@ pub fn is_there(deck: &Deck, head: Head) -> bool
 }
 
 /// The numbers of a statement, none where it is absent.
+#[tactic(auto, using(crate::proofs::Forms::form_is, crate::proofs::Forms::empty_form, crate::proofs::Forms::filled_is))]
 pub fn numbers(deck: &Deck, head: Head) -> &[u64]
     ensures value { result.now ≡ spec.numbers (body_of deck.now) head }
     ensures in_form { IsFormOf head result.now }
+    ensures filled { IsTrue (spec.is_there (body_of deck.now) head) → IsFilled head result.now }
 {
     match deck.get(&head) {
         Some(body) => body.numbers(),
@@ -45,6 +47,8 @@ pub fn number(deck: &Deck, head: Head, place: usize) -> u64
 /// The first number of a statement, or what stands for it where it is absent.
 fn number_or(deck: &Deck, head: Head, default: u64) -> u64
     ensures value { result ≡ spec.number_or (body_of deck.now) head default }
+    ensures low { 0 < (form_of head).least * length (form_of head).group → bottom (kind_at (form_of head) 0) ≤ default → bottom (kind_at (form_of head) 0) ≤ result }
+    ensures most { default ≤ top (kind_at (form_of head) 0) → result ≤ top (kind_at (form_of head) 0) }
 {
     if is_there(deck, head) {
         number(deck, head, 0)
@@ -99,6 +103,7 @@ pub fn weights(deck: &Deck) -> &[u64]
     ensures value { result.now ≡ spec.weights (body_of deck.now) }
     ensures some { 1 ≤ length result.now }
     ensures few { length result.now ≤ 5 }
+    ensures small { (i : ℕ) → slice_index result.now i ≤ 10000 }
 {
     if is_there(deck, Head::Conditions) {
         numbers(deck, Head::Conditions)

@@ -67,6 +67,7 @@ fn negative(deck: &Deck, p: u64, t: u64) -> bool
 }
 
 /// Whether a project has a PROJECT or a WATER.
+#[tactic(auto, unfolding(crate::specs::Readings::first))]
 fn is_project(deck: &Deck, g: u64, j: u64) -> bool
     ensures { result ≡ spec.is_project (body_of deck.now) g j }
 {

@@ -1,0 +1,4 @@
+pub mod Firsts
+pub mod Forms
+pub mod Sizes
+pub mod YearOf
