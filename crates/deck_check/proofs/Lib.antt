@@ -1,4 +1,6 @@
 pub mod Firsts
 pub mod Forms
+pub mod Peaks
+pub mod Searches
 pub mod Sizes
 pub mod YearOf

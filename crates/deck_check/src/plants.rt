@@ -179,6 +179,7 @@ pub fn capacity(deck: &Deck, t: u64) -> u64
 }
 
 /// The greatest peak of a year in MW.
+#[tactic(auto, using(crate::proofs::Peaks::peak_more))]
 pub fn peak(deck: &Deck, t: u64) -> u64
     ensures value { result ≡ spec.peak (body_of deck.now) t }
     ensures small { result ≤ 400000 }

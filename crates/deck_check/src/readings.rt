@@ -45,15 +45,15 @@ pub fn number(deck: &Deck, head: Head, place: usize) -> u64
 }
 
 /// The first number of a statement, or what stands for it where it is absent.
+#[tactic(auto, using(crate::proofs::Forms::form_is, crate::proofs::Forms::filled_is))]
 fn number_or(deck: &Deck, head: Head, default: u64) -> u64
     ensures value { result ≡ spec.number_or (body_of deck.now) head default }
     ensures low { 0 < (form_of head).least * length (form_of head).group → bottom (kind_at (form_of head) 0) ≤ default → bottom (kind_at (form_of head) 0) ≤ result }
     ensures most { default ≤ top (kind_at (form_of head) 0) → result ≤ top (kind_at (form_of head) 0) }
 {
-    if is_there(deck, head) {
-        number(deck, head, 0)
-    } else {
-        default
+    match deck.get(&head) {
+        Some(body) => number_at(body.numbers(), 0),
+        None => default,
     }
 }
 

@@ -1,6 +1,8 @@
 //! When each row of the fault table is met.
 ghost use Rattle.std.specs.Prelude.{◌≡◌, ◌==◌, ◌≤◌, ◌<◌, ◌+◌, ◌-◌, ◌*◌, ◌/◌, ◌&&◌, ◌||◌, ◌^◌, nat_lt, not, length, slice_index};
+ghost use Rattle.std.specs.List.{list_any, range_with_len};
 ghost use Rattle.deck_lines.specs.Deck.{body_of};
+ghost use Rattle.deck_lines.specs.declared.head.Head.TheVariants as heads;
 ghost use Rattle.deck_check.specs.DeckFault as spec;
 ghost use Rattle.deck_check.specs.Order.{row_of};
 ghost use Rattle.deck_check.specs.Readings as says;
@@ -66,12 +68,20 @@ fn negative(deck: &Deck, p: u64, t: u64) -> bool
     come(deck, p, t) < gone(deck, p, t)
 }
 
+/// Whether a project has a WATER in one of so many periods.
+fn has_water(deck: &Deck, g: u64, j: u64, periods: u64) -> bool
+    requires { periods ≤ 12 }
+    ensures { result ≡ list_any (λ m. says.is_there (body_of deck.now) (heads.Water g j m)) (range_with_len 1 periods) }
+{
+    (1..periods + 1).any(|m| is_there(deck, Head::Water(g, j, m)))
+}
+
 /// Whether a project has a PROJECT or a WATER.
 #[tactic(auto, unfolding(crate::specs::Readings::first))]
 fn is_project(deck: &Deck, g: u64, j: u64) -> bool
     ensures { result ≡ spec.is_project (body_of deck.now) g j }
 {
-    is_there(deck, Head::Project(g, j)) || (1..13).any(|m| is_there(deck, Head::Water(g, j, m)))
+    is_there(deck, Head::Project(g, j)) || has_water(deck, g, j, 12)
 }
 
 /// Whether the capacity and the peak of a year are more than the grid can take.

@@ -4,6 +4,7 @@ ghost use Rattle.deck_lines.specs.Deck.{body_of};
 ghost use Rattle.deck_check.specs.DeckFault.{HasNoFault, IsFaultOf};
 ghost use Rattle.deck_check.specs.FaultTable.{IsLeastA, IsLeastB, IsLeastC};
 ghost use Rattle.deck_check.specs.Order.{row_of};
+ghost use Rattle.deck_check.specs.Readings.{Says};
 
 use crate::fault::DeckFault;
 use crate::table::{FaultRow, TABLE};
@@ -33,30 +34,51 @@ fn least_c(row: FaultRow, deck: &Deck, a: u64, b: u64) -> Option<u64>
 }
 
 /// The least second and third number with which a row is met.
+#[tactic(auto, using(crate::proofs::Searches::none_more_b))]
 fn least_b(row: FaultRow, deck: &Deck, a: u64) -> Option<Place>
     requires { a ≤ (row_of row (body_of deck.now)).a.to }
     ensures { IsLeastB (row_of row (body_of deck.now)) a result }
 {
     let span = row.b_span(deck, a);
     for b in span.from..span.to + 1 {
-        if let Some(c) = least_c(row, deck, a, b) {
-            return Some(Place { a, b, c });
+        match least_c(row, deck, a, b) {
+            Some(c) => return Some(Place { a, b, c }),
+            None => {}
         }
     }
     None
 }
 
 /// The least numbers with which a row is met.
+#[tactic(auto, using(crate::proofs::Searches::none_more_a))]
 fn least(row: FaultRow, deck: &Deck) -> Option<Place>
     ensures { IsLeastA (row_of row (body_of deck.now)) result }
 {
     let span = row.a_span(deck);
     for a in span.from..span.to + 1 {
-        if let Some(place) = least_b(row, deck, a) {
-            return Some(place);
+        match least_b(row, deck, a) {
+            Some(place) => return Some(place),
+            None => {}
         }
     }
     None
+}
+
+impl FaultRow {
+    /// The fault of meeting this row.
+    fn fault(self, place: Place) -> DeckFault
+        ensures number { (d : Says) → result.number ≡ (row_of self d).number }
+        ensures a { result.a ≡ place.a }
+        ensures b { result.b ≡ place.b }
+        ensures c { result.c ≡ place.c }
+    {
+        DeckFault {
+            number: self.number(),
+            a: place.a,
+            b: place.b,
+            c: place.c,
+        }
+    }
 }
 
 /// The first row of the table that a deck meets, with its least numbers.
@@ -64,13 +86,9 @@ pub fn first_fault(deck: &Deck) -> Option<DeckFault>
     ensures { MatchOption result (HasNoFault (body_of deck.now)) (λ fault. IsFaultOf (body_of deck.now) fault) }
 {
     for row in TABLE {
-        if let Some(place) = least(row, deck) {
-            return Some(DeckFault {
-                number: row.number(),
-                a: place.a,
-                b: place.b,
-                c: place.c,
-            });
+        match least(row, deck) {
+            Some(place) => return Some(row.fault(place)),
+            None => {}
         }
     }
     None
