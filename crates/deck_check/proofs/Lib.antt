@@ -1,5 +1,6 @@
 pub mod Firsts
 pub mod Forms
+pub mod Kept
 pub mod Peaks
 pub mod Searches
 pub mod Sizes

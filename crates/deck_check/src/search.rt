@@ -1,7 +1,7 @@
 //! The least numbers that meet a row, and the first row that is met.
-ghost use Rattle.std.specs.Prelude.{◌≡◌, ◌≤◌, ◌<◌, ◌^◌, Option, OnSome, IfSome, IfNone, MatchOption};
+ghost use Rattle.std.specs.Prelude.{◌≡◌, ◌≤◌, ◌<◌, ◌^◌, MatchOption, slice_get};
 ghost use Rattle.deck_lines.specs.Deck.{body_of};
-ghost use Rattle.deck_check.specs.DeckFault.{HasNoFault, IsFaultOf};
+ghost use Rattle.deck_check.specs.DeckFault.{HasNoFault, IsFaultOf, table};
 ghost use Rattle.deck_check.specs.FaultTable.{IsLeastA, IsLeastB, IsLeastC};
 ghost use Rattle.deck_check.specs.Order.{row_of};
 ghost use Rattle.deck_check.specs.Readings.{Says};
@@ -34,7 +34,7 @@ fn least_c(row: FaultRow, deck: &Deck, a: u64, b: u64) -> Option<u64>
 }
 
 /// The least second and third number with which a row is met.
-#[tactic(auto, using(crate::proofs::Searches::none_more_b))]
+
 fn least_b(row: FaultRow, deck: &Deck, a: u64) -> Option<Place>
     requires { a ≤ (row_of row (body_of deck.now)).a.to }
     ensures { IsLeastB (row_of row (body_of deck.now)) a result }
@@ -50,7 +50,7 @@ fn least_b(row: FaultRow, deck: &Deck, a: u64) -> Option<Place>
 }
 
 /// The least numbers with which a row is met.
-#[tactic(auto, using(crate::proofs::Searches::none_more_a))]
+
 fn least(row: FaultRow, deck: &Deck) -> Option<Place>
     ensures { IsLeastA (row_of row (body_of deck.now)) result }
 {
@@ -81,11 +81,21 @@ impl FaultRow {
     }
 }
 
+/// The row at a place of the table.
+#[tactic(auto, using(crate::proofs::Searches::table_at))]
+fn row_at(place: usize) -> FaultRow
+    requires { place < 27 }
+    ensures { (d : Says) → slice_get (table d) place ≡ Some (row_of result d) }
+{
+    TABLE[place]
+}
+
 /// The first row of the table that a deck meets, with its least numbers.
 pub fn first_fault(deck: &Deck) -> Option<DeckFault>
     ensures { MatchOption result (HasNoFault (body_of deck.now)) (λ fault. IsFaultOf (body_of deck.now) fault) }
 {
-    for row in TABLE {
+    for place in 0..TABLE.len() {
+        let row = row_at(place);
         match least(row, deck) {
             Some(place) => return Some(row.fault(place)),
             None => {}

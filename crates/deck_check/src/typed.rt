@@ -1,7 +1,7 @@
 //! The check of a deck, and the deck that has no fault.
-ghost use Rattle.std.specs.Prelude.{◌≡◌, ◌≤◌, ◌<◌, IfOk, OnErr, Err};
+ghost use Rattle.std.specs.Prelude.{◌≡◌, ◌≤◌, ◌<◌, IfErr, IfOk, Err};
 ghost use Rattle.deck_lines.specs.Deck.{body_of};
-ghost use Rattle.deck_check.specs.DeckFault.{IsFaultOf};
+ghost use Rattle.deck_check.specs.DeckFault.{HasNoFault, IsFaultOf};
 ghost use Rattle.deck_check.specs.Readings as says;
 ghost use Rattle.deck_check.specs.Economy.{costs};
 ghost use Rattle.deck_check.specs.TypedDeck.{IsTunnelOf, IsTyped, limit, margin, name_of, tunnel};
@@ -51,15 +51,28 @@ pub fn check(deck: &Deck) -> Result<TypedDeck, CheckError>
     ensures faultless { IfOk result (λ typed. IsTyped typed) }
     ensures fault { (fault : _) → result ≡ Err (CheckError.Fault fault) → IsFaultOf (body_of deck.now) fault }
 {
-    if let Some(fault) = first_fault(deck) {
-        return Err(CheckError::Fault(fault));
+    match first_fault(deck) {
+        Some(fault) => Err(CheckError::Fault(fault)),
+        None => TypedDeck::of(deck),
     }
-    Ok(TypedDeck {
-        deck: deck.clone()?,
-    })
 }
 
 impl TypedDeck {
+    /// The deck, which meets no row.
+    fn of(deck: &Deck) -> Result<TypedDeck, CheckError>
+        requires { HasNoFault (body_of deck.now) }
+        ensures typed { IfOk result (λ typed. typed ≡ deck.now) }
+        ensures faultless { IfOk result (λ typed. IsTyped typed) }
+        ensures err { IfErr result (λ error. error ≡ CheckError.OutOfMemory) }
+    {
+        // Its reading tells the proof that the statements are in their form.
+        let _years = deck.get(&Head::Years);
+        match deck.copy() {
+            Ok(deck) => Ok(TypedDeck { deck }),
+            Err(OutOfMemory) => Err(CheckError::OutOfMemory),
+        }
+    }
+
     /// The number of years, 1 to 30.
     pub fn years(&self) -> u64
         ensures value { result ≡ says.years (body_of self.now) }
