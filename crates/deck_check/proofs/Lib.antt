@@ -4,4 +4,5 @@ pub mod Kept
 pub mod Peaks
 pub mod Searches
 pub mod Sizes
+pub mod Sound
 pub mod YearOf

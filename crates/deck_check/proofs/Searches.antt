@@ -25,13 +25,13 @@ none_more_a row a before none x y z lt =
     (λ ge. let e : x ≡ a = omega (arith, ge, lt) in subst (λ (w : ℕ). is_met row w y z ≡ false) (sym e) (and_right (is_in row.a a) (is_met_at_b row a y z) (none y z)))
     (cases_lt x a)
 
-at_map : (f : FaultRow → Row) (xs : List FaultRow) (i : ℕ) (x : FaultRow) → i < length xs → x ≡ slice_index_or xs i x → slice_get (map f xs) i ≡ Some (f x)
-at_map f [] i x lt e = absurd (omega arith)
-at_map f (y ∷ ys) zero x lt e = ap (λ z. Some (f z)) (sym e)
-at_map f (y ∷ ys) (suc i) x lt e = at_map f ys i x (omega arith) e
+at_map : (f : FaultRow → Row) (xs : List FaultRow) (i : ℕ) (x : FaultRow) → i < length xs → slice_get (map f xs) i ≡ Some (f (slice_index_or xs i x))
+at_map f [] i x lt = absurd (omega arith)
+at_map f (y ∷ ys) zero x lt = refl
+at_map f (y ∷ ys) (suc i) x lt = at_map f ys i x (omega arith)
 
-pub table_at : (d : Says) (i : ℕ) (x : FaultRow) → i < 27 → x ≡ slice_index_or TABLE i x → slice_get (table d) i ≡ Some (row_of x d)
-table_at d i x lt e = at_map (λ r. row_of r d) TABLE i x lt e
+pub table_at : (d : Says) (i : ℕ) (x : FaultRow) → i < 27 → slice_get (table d) i ≡ Some (row_of (slice_index_or TABLE i x) d)
+table_at d i x lt = at_map (λ r. row_of r d) TABLE i x lt
 
 pub none_more_rows : (rows : List Row) (place : ℕ) (row : Row) → slice_get rows place ≡ Some row → All IsUnmet (take place rows) → IsUnmet row → All IsUnmet (take (place + 1) rows)
 none_more_rows rows place row at before none =

@@ -1,7 +1,9 @@
 //! What plants, candidates and groups are called.
 ghost use Rattle.std.specs.Prelude.{◌≡◌, ◌≤◌, IsTrue, length, take, drop};
 ghost use Rattle.deck_lines.specs.Statements.{is_name};
+ghost use Rattle.deck_check.specs.TypedDeck.{head_of_id};
 
+use deck_lines::Head;
 use std::marker::Model;
 
 /// A plant, a thermal candidate or a hydro group, by its number.
@@ -13,6 +15,19 @@ pub enum PlantId {
     Thermal(u64),
     /// A hydro group, 1 or 2.
     Hydro(u64),
+}
+
+impl PlantId {
+    /// Its statement.
+    pub(crate) fn head(self) -> Head
+        ensures { result ≡ head_of_id self }
+    {
+        match self {
+            PlantId::Existing(p) => Head::Plant(p),
+            PlantId::Thermal(k) => Head::Thermal(k),
+            PlantId::Hydro(g) => Head::Hydro(g),
+        }
+    }
 }
 
 /// A name of 1 to 8 letters, digits, `_` and `-`, which contracts see as its bytes.

@@ -82,7 +82,6 @@ impl FaultRow {
 }
 
 /// The row at a place of the table.
-#[tactic(auto, using(crate::proofs::Searches::table_at))]
 fn row_at(place: usize) -> FaultRow
     requires { place < 27 }
     ensures { (d : Says) → slice_get (table d) place ≡ Some (row_of result d) }

@@ -181,12 +181,7 @@ impl TypedDeck {
         ensures value { result ≡ name_of (body_of self.now) id }
         ensures valid { IsTyped self.now }
     {
-        let head = match id {
-            PlantId::Existing(p) => Head::Plant(p),
-            PlantId::Thermal(k) => Head::Thermal(k),
-            PlantId::Hydro(g) => Head::Hydro(g),
-        };
-        match self.deck.get(&head) {
+        match self.deck.get(&id.head()) {
             Some(body) => Some(Name::new(body.name())),
             None => None,
         }
