@@ -1,6 +1,7 @@
 pub mod Firsts
 pub mod Forms
 pub mod Kept
+pub mod LoadFacts
 pub mod Peaks
 pub mod Searches
 pub mod Sizes

@@ -1,0 +1,6 @@
+use Rattle.deck_lines.specs.Deck.{body_of}
+use Rattle.deck_check.proofs.Sound.{sound_is, width_low}
+use Rattle.deck_check.proofs.cases.counts_in.Goals as goal
+
+pub zero-config-requires-clause-low : goal.zero-config-requires-clause-low
+zero-config-requires-clause-low c = rw c.width-width.ensures.value (width_low (body_of c.args.deck.now) (sound_is c.args.deck.now c.requires.typed))
