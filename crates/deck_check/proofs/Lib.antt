@@ -1,8 +1,10 @@
 pub mod Firsts
 pub mod Forms
 pub mod Kept
+pub mod GroupFacts
 pub mod LoadFacts
 pub mod Peaks
+pub mod PlantFacts
 pub mod Searches
 pub mod Sizes
 pub mod Sound
