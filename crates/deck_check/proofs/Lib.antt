@@ -8,4 +8,6 @@ pub mod PlantFacts
 pub mod Searches
 pub mod Sizes
 pub mod Sound
+pub mod SystemFacts
+pub mod TunnelFacts
 pub mod YearOf

@@ -58,6 +58,8 @@ pub fn load_of(alloc: Global, deck: &Deck, t: u64, i: usize) -> Result<Load, Out
     requires period { i < spec.periods (body_of deck.now) }
     ensures { IfOk result (λ l. l ≡ spec.load_in (body_of deck.now) t i) }
 {
+    // Its reading tells the proof that there are at most 12 periods.
+    let _periods = periods(deck);
     let load = numbers(deck, Head::Load(t));
     let points = points_of(alloc, deck, number_at(load, 2 * i + 1))?;
     Ok(Load {
