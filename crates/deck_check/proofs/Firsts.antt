@@ -1,8 +1,8 @@
 -- The numbers from 1 to n, and what is made of them, one number more.
-use Rattle.std.proofs.Common.{◌≡◌, ℕ, zero, suc, ◌+◌, ◌-◌, ◌<◌, ◌≤◌, Bool, false, IsTrue, cond, List, [], ◌∷◌, ◌++◌, length, map, slice_index, slice_index_or, refl, sym, ap, ◌∙◌, arith, append_assoc}
+use Rattle.std.proofs.Common.{◌≡◌, ℕ, zero, suc, ◌+◌, ◌-◌, ◌<◌, ◌≤◌, Bool, false, IsTrue, cond, List, [], ◌∷◌, ◌++◌, length, map, set, take, slice_index, slice_index_or, refl, sym, ap, ◌∙◌, arith, append_assoc}
 use Rattle.std.specs.Prelude.{sum, sum_by, filter}
 use Rattle.std.specs.List.{flat_map, range_with_len}
-use Rattle.std.proofs.lemmas.List.{append-nil, map-append, flat_map_more}
+use Rattle.std.proofs.lemmas.List.{append-nil, flat_map_more, length-set, map-append, take_more_set}
 use Rattle.std.proofs.lemmas.List.Elements.{filter-append}
 use Rattle.std.proofs.lemmas.List.FromFn.{get_or-range_with_len, length-range_with_len, map-range_with_len_more, length-map-range_with_len}
 use Rattle.std.proofs.lemmas.List.Sums.{sum_by_push}
@@ -64,3 +64,16 @@ passed_more_yes f p n h = rw (map_more f n, filter-append p (map f (first n)) (f
 
 pub passed_more_no : {X : Type 0} (f : ℕ → X) (p : X → Bool) (n : ℕ) → p (f (n + 1)) ≡ false → filter p (map f (first (n + 1))) ≡ filter p (map f (first n))
 passed_more_no f p n h = rw (map_more f n, filter-append p (map f (first n)) (f (n + 1) ∷ []), h) (append-nil (filter p (map f (first n))))
+
+-- ---- one more behind what stood before
+
+pub push_from_0 : {X : Type 0} (f : ℕ → X) (init old new : List X) (n : ℕ) (x : X) → new ≡ old ++ x ∷ [] → old ≡ init ++ map f (range_with_len 0 n) → x ≡ f n → new ≡ init ++ map f (range_with_len 0 (n + 1))
+push_from_0 f init old new n x e h same = rw (from_0_more f n, e, h, same) (append_assoc init (map f (range_with_len 0 n)) (f n ∷ []))
+
+pub put_flat : {X : Type 0} (f : ℕ → List X) (init old new : List X) (n : ℕ) → new ≡ old ++ f (n + 1) → old ≡ init ++ flat_map f (first n) → new ≡ init ++ flat_map f (first (n + 1))
+put_flat f init old new n e h = rw (flat_more f n, e, h) (append_assoc init (flat_map f (first n)) (f (n + 1)))
+
+pub set_from_0 : (f : ℕ → ℕ) (old new : List ℕ) (n k v : ℕ) → k < n → (length old ≡ n) × (take k old ≡ map f (range_with_len 0 k)) → new ≡ set old k v → v ≡ f k → (length new ≡ n) × (take (k + 1) new ≡ map f (range_with_len 0 (k + 1)))
+set_from_0 f old new n k v lt h e same =
+    let within : k < length old = omega (arith, lt, h.0) in
+    (rw (e, length-set old k v) h.0, rw (e, from_0_more f k, take_more_set old k v within, h.1, same) refl)

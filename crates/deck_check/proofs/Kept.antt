@@ -7,8 +7,9 @@ use Rattle.std.proofs.lemmas.Bool.{cases_Bool, cases_lt, lt-ltb, le-ltb, ltb-tru
 use Rattle.std.proofs.lemmas.List.{append-nil, map-append, length-append, length-map, get_or_append_left, get_or-append_right, get_or_default}
 use Rattle.std.proofs.lemmas.List.Concat.{flat_map-append, length-flat_map}
 use Rattle.std.proofs.lemmas.List.Elements.{All-append, All-cons, All-map, All-nil, All-push, All-weaker, filter-append}
+use Rattle.std.proofs.lemmas.List.Folds.{fold-map}
 use Rattle.std.proofs.lemmas.List.FromFn.{get_or-map-range_with_len, length-map-range_with_len}
-use Rattle.std.proofs.lemmas.List.Sums.{sum_by-cons, sum_by_push}
+use Rattle.std.proofs.lemmas.List.Sums.{sum_by_push}
 use Rattle.deck_check.specs.Readings.{first}
 use Rattle.deck_check.proofs.Firsts.{first_more, first_none}
 
@@ -163,14 +164,19 @@ sum_passed w f p v (suc n) e none =
     rw (first_suc n, map-append f (first n) (suc n ∷ []), map-append v (first n) (suc n ∷ []), sum_by_push (λ (x : ℕ). x) (map v (first n)) (v (suc n)), sym (e (suc n)))
     (sum_step w p (map f (first n)) (f (suc n)) (sum (map v (first n))) (none (suc n)) (sum_passed w f p v n e none))
 
-pub sum_kept : {X : Type 0} (w : X → ℕ) (f : ℕ → X) (p : ℕ → Bool) (v : ℕ → ℕ) (n : ℕ) → ((x : ℕ) → w (f x) ≡ v x) → ((x : ℕ) → p x ≡ false → v x ≡ 0) → sum_by w (map f (filter p (first n))) ≡ sum (map v (first n))
-sum_kept w f p v n e none = sum_by_map w f v (filter p (first n)) e ∙ go n
+kept_step : (w : ℕ → ℕ) (p : ℕ → Bool) (xs : List ℕ) (x total v : ℕ) → (p x ≡ true → w x ≡ v) → (p x ≡ false → v ≡ 0) → sum_by w (filter p xs) ≡ total → sum_by w (filter p (xs ++ x ∷ [])) ≡ total + v
+kept_step w p xs x total v same none h =
+    ⊎_elim
+    (λ holds. rw (filter_yes p xs x holds, sum_by_push w (filter p xs) x, h, same holds) refl)
+    (λ fails. rw (filter_no p xs x fails, none fails, h) (omega arith))
+    (cases_Bool (p x))
+
+pub sum_kept : {X : Type 0} (w : X → ℕ) (f : ℕ → X) (p : ℕ → Bool) (v : ℕ → ℕ) (n : ℕ) → ((x : ℕ) → 1 ≤ x → x ≤ n → w (f x) ≡ v x) → ((x : ℕ) → 1 ≤ x → x ≤ n → p x ≡ false → v x ≡ 0) → sum_by w (map f (filter p (first n))) ≡ sum (map v (first n))
+sum_kept w f p v n e none = fold-map (λ a x. a + w x) f 0 (filter p (first n)) ∙ weighed (λ x. w (f x)) p v n e none
     where
-      sum_by_map : {X : Type 0} (w : X → ℕ) (f : ℕ → X) (v : ℕ → ℕ) (xs : List ℕ) → ((x : ℕ) → w (f x) ≡ v x) → sum_by w (map f xs) ≡ sum_by v xs
-      sum_by_map w f v [] e = refl
-      sum_by_map w f v (x ∷ xs) e = sum_by-cons w (f x) (map f xs) ∙ rw (e x, sum_by_map w f v xs e) (sym (sum_by-cons v x xs))
-      go : (n : ℕ) → sum_by v (filter p (first n)) ≡ sum (map v (first n))
-      go zero = rw first_none refl
-      go (suc n) =
+      weighed : (w : ℕ → ℕ) (p : ℕ → Bool) (v : ℕ → ℕ) (n : ℕ) → ((x : ℕ) → 1 ≤ x → x ≤ n → w x ≡ v x) → ((x : ℕ) → 1 ≤ x → x ≤ n → p x ≡ false → v x ≡ 0) → sum_by w (filter p (first n)) ≡ sum (map v (first n))
+      weighed w p v zero e none = rw first_none refl
+      weighed w p v (suc n) e none =
           rw (first_suc n, map-append v (first n) (suc n ∷ []), sum_by_push (λ (x : ℕ). x) (map v (first n)) (v (suc n)))
-          (sum_step v p (first n) (suc n) (sum (map v (first n))) (none (suc n)) (go n))
+          (kept_step w p (first n) (suc n) (sum (map v (first n))) (v (suc n)) (λ h. e (suc n) (omega arith) (omega arith)) (none (suc n) (omega arith) (omega arith))
+          (weighed w p v n (λ x low high. e x low (omega (arith, high))) (λ x low high. none x low (omega (arith, high)))))

@@ -6,9 +6,12 @@ use Rattle.std.proofs.lemmas.Bool.{and_cases, and_from, both_ways, cases_Bool, c
 use Rattle.std.proofs.lemmas.List.Folds.{list_any_at}
 use Rattle.std.proofs.lemmas.List.FromFn.{get_or-map-range_with_len, get_or-range_with_len, length-map-range_with_len, length-range_with_len}
 use Rattle.deck_lines.specs.declared.form.Kind.TheVariants as kinds
+use Rattle.deck_lines.specs.Deck.{body_of}
 use Rattle.deck_lines.specs.declared.head.Head.{Head}
 use Rattle.deck_lines.specs.declared.head.Head.TheVariants as heads
+use Rattle.deck_lines.specs.declared.statement.Statement.{Statement}
 use Rattle.deck_lines.specs.Statements.{from_to, shape}
+use Rattle.deck_check.specs.TypedDeck.{IsTyped}
 use Rattle.plant_data.specs.Shapes.{IsFaultless, IsInRange, load_at, no_point, share_at}
 use Rattle.plant_data.specs.declared.shape.Load.{Load}
 use Rattle.plant_data.specs.declared.shape.Point.{Point}
@@ -20,7 +23,7 @@ use Rattle.deck_check.specs.Forms.{bottom, top}
 use Rattle.deck_check.specs.Readings.{Says, is_absent, is_there, load_in, loads, number, numbers, peak, periods, point_in, points, step, weights, years}
 use Rattle.deck_check.proofs.Forms.{AreCounted}
 use Rattle.deck_check.proofs.Kept.{each_from_0}
-use Rattle.deck_check.proofs.Sound.{IsSound, first_of_pair, in_only, in_upto, low_at, most_at, periods_low, row_at, second_of_pair, stated_fails, unmet_one, unmet_two}
+use Rattle.deck_check.proofs.Sound.{IsSound, first_of_pair, in_only, in_upto, low_at, most_at, periods_low, row_at, second_of_pair, sound_is, stated_fails, unmet_one, unmet_two}
 
 -- ---- the LOAD of a year
 
@@ -170,3 +173,18 @@ pub peak_within : (d : Says) (t i : ℕ) → i < periods d → (load_in d t i).p
 peak_within d t i lt =
     let at : slice_index_or (loads d t) i (load_in d t 0) ≡ load_in d t i = get_or-map-range_with_len (load_in d t) 0 (periods d) i i (load_in d t 0) lt (omega arith) in
     subst (λ (l : Load). l.peak ≤ peak d t) at (among (loads d t) 0 i (load_in d t 0) (rw (length-map-range_with_len (load_in d t) 0 (periods d)) lt))
+
+-- the points that were read of the shape of a period
+pub record ArePoints (items : List Point) : Type 0 where
+  pub low : 2 ≤ length items
+  pub high : length items ≤ 64
+  pub range : All IsInRange items
+
+pub read_points : (deck : List Statement) (t i x : ℕ) (load : List ℕ) (items : List Point) → IsTyped deck → 1 ≤ t → t ≤ years (body_of deck) → i < periods (body_of deck) → load ≡ numbers (body_of deck) (heads.Load t) → x ≡ slice_index load (2 * i + 1) → items ≡ points (body_of deck) x → ArePoints items
+read_points deck t i x load items typed low high lt e at is =
+    let d = body_of deck in
+    let s = sound_is deck typed in
+    let same : x ≡ number d (heads.Load t) (2 * i + 1) = at ∙ ap (λ (ns : List ℕ). slice_index ns (2 * i + 1)) e in
+    let count = points_count d s (number d (heads.Load t) (2 * i + 1)) (shape_there d s t i low high lt) in
+    let whole : ArePoints (points d (number d (heads.Load t) (2 * i + 1))) = record { low = count.0; high = count.1; range = points_range d s (number d (heads.Load t) (2 * i + 1)) } in
+    subst ArePoints (sym (is ∙ ap (points d) same)) whole

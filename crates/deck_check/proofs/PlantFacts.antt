@@ -177,9 +177,9 @@ existing_mw d t =
     (λ x f. let e : units_in d x t ≡ 0 = omega (arith, ltb-false 0 (units_in d x t) f) in rw e (omega arith))
 
 pub thermal_units : (d : Says) → system.units (thermal d) ≡ sum (map (λ k. number d (heads.Thermal k) 0) (first 12))
-thermal_units d = sum_kept (λ (p : Plant). p.units) (λ k. plant_of d (40 + k) (number d (heads.Thermal k) 0)) (λ k. is_there d (heads.Thermal k)) (λ k. number d (heads.Thermal k) 0) 12 (λ x. refl) (λ x f. absent_number d (heads.Thermal x) 0 f)
+thermal_units d = sum_kept (λ (p : Plant). p.units) (λ k. plant_of d (40 + k) (number d (heads.Thermal k) 0)) (λ k. is_there d (heads.Thermal k)) (λ k. number d (heads.Thermal k) 0) 12 (λ x low high. refl) (λ x low high f. absent_number d (heads.Thermal x) 0 f)
 
 pub thermal_mw : (d : Says) → full_mw (thermal d) ≡ sum (map (λ k. number d (heads.Thermal k) 0 * full d (40 + k)) (first 12))
 thermal_mw d =
-    sum_kept (λ (p : Plant). p.units * p.full) (λ k. plant_of d (40 + k) (number d (heads.Thermal k) 0)) (λ k. is_there d (heads.Thermal k)) (λ k. number d (heads.Thermal k) 0 * full d (40 + k)) 12 (λ x. refl)
-    (λ x f. let e : number d (heads.Thermal x) 0 ≡ 0 = absent_number d (heads.Thermal x) 0 f in rw e (omega arith))
+    sum_kept (λ (p : Plant). p.units * p.full) (λ k. plant_of d (40 + k) (number d (heads.Thermal k) 0)) (λ k. is_there d (heads.Thermal k)) (λ k. number d (heads.Thermal k) 0 * full d (40 + k)) 12 (λ x low high. refl)
+    (λ x low high f. let e : number d (heads.Thermal x) 0 ≡ 0 = absent_number d (heads.Thermal x) 0 f in rw e (omega arith))
