@@ -1,3 +1,4 @@
+pub mod CostFacts
 pub mod Energies
 pub mod Firsts
 pub mod Forms
