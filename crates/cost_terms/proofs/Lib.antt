@@ -1,0 +1,6 @@
+pub mod Amounts
+pub mod Columns
+pub mod FactorBounds
+mod Rows
+pub mod Salvage
+pub mod Steps

@@ -4,7 +4,7 @@
 -- the horizon, escalation, the dearer shortages and each rounding are this program's own.
 --
 -- Years are counted from 1. `before` and `after` are the counts at the year's beginning and with its additions.
-use Rattle.std.specs.Prelude.{ℕ, zero, suc, ◌+◌, ◌-◌, ◌*◌, ◌/◌, List, [], ◌∷◌, ◌++◌, length, map, sum_by, drop, take, min, nat_eq, if◌then◌else◌, slice_index, replicate}
+use Rattle.std.specs.Prelude.{ℕ, zero, suc, ◌+◌, ◌-◌, ◌*◌, ◌/◌, ◌≤◌, List, [], ◌∷◌, ◌++◌, length, map, sum_by, drop, take, min, nat_eq, if◌then◌else◌, slice_index, replicate}
 use Rattle.std.specs.List.{flat_map, zip}
 use Rattle.plant_data.specs.declared.row.Row.{Row}
 use Rattle.wasp_fixed.specs.Discounts.{end_factor, mid_factor}
@@ -143,6 +143,10 @@ abbrev pub step_cost : CostData → ℕ → List ℕ → List ℕ → Row → �
 step_cost c year before after row =
     build c year before after - salvage c year before after + stock c year before after
     + fuel c year row + upkeep c year after row + unserved c year row
+
+-- no salvage is above its investment, since money is worth no more at the horizon
+abbrev pub SalvageIsWithinBuild : Type 0
+SalvageIsWithinBuild = (c : CostData) (year : ℕ) (before after : List ℕ) → year ≤ c.years → salvage c year before after ≤ build c year before after
 
 -- the configuration before year 1
 abbrev pub nothing_built : CostData → List ℕ

@@ -1,5 +1,5 @@
 -- Sums over the items that are added in a year.
-use Rattle.std.specs.Prelude.{◌≡◌, ℕ, ◌+◌, ◌*◌, ◌≤◌, List, sum_by}
+use Rattle.std.specs.Prelude.{◌≡◌, ◌+◌, ◌*◌, ◌≤◌, List, sum_by}
 use Rattle.wasp_fixed.specs.declared.numbers.TheConstants.{ONE}
 use Rattle.cost_terms.specs.Cost.{domestic, foreign, inventory, item_salvage}
 use Rattle.cost_terms.specs.declared.additions.Horizon.{Horizon}

@@ -3,7 +3,7 @@ ghost use Rattle.std.specs.Prelude.{◌≡◌, ◌+◌, ◌-◌, ◌*◌, ◌≤
 ghost use Rattle.std.specs.List.{flat_map};
 ghost use Rattle.plant_data.specs.Configs.{IsAtMost};
 ghost use Rattle.wasp_fixed.specs.declared.numbers.TheConstants.{ONE};
-ghost use Rattle.cost_terms.specs.Cost.{added_projects, added_units, domestic, foreign, group_steps, item_salvage, thermal_steps};
+ghost use Rattle.cost_terms.specs.Cost.{added_projects, added_units, domestic, foreign, group_steps, item_salvage, items, thermal_steps};
 ghost use Rattle.cost_terms.specs.CostData.{Fits, IsEconomy, IsGroupCost, IsThermalCost};
 ghost use Rattle.cost_terms.specs.Totals.{Adds, IsHorizon, IsItem, IsWithin, nothing};
 
@@ -53,6 +53,7 @@ pub struct Totals {
 }
 
 /// The salvage of an item with these investments, which outlives the horizon by `rest` of its years.
+#[tactic(auto, using(crate::proofs::Amounts::worth_most, crate::proofs::Amounts::part_le))]
 fn salvage_of(item: &Item, horizon: &Horizon) -> u64
     requires item { IsItem item.now }
     requires horizon { IsHorizon horizon.now }
@@ -70,6 +71,7 @@ fn salvage_of(item: &Item, horizon: &Horizon) -> u64
 
 impl Totals {
     /// The sums with one more item.
+    #[tactic(auto, using(crate::proofs::Amounts::per_mw))]
     fn add(&self, item: &Item, horizon: &Horizon) -> Totals
         requires item { IsItem item.now }
         requires horizon { IsHorizon horizon.now }
@@ -144,12 +146,7 @@ impl Totals {
 }
 
 /// The sums over the units of thermal candidates that a year adds.
-pub fn thermal_totals(
-    costs: &CostData,
-    before: &Config,
-    after: &Config,
-    horizon: &Horizon,
-) -> Totals
+fn thermal_totals(costs: &CostData, before: &Config, after: &Config, horizon: &Horizon) -> Totals
     requires costs { IsEconomy costs.now }
     requires before { Fits costs.now before.now }
     requires after { Fits costs.now after.now }
@@ -174,7 +171,7 @@ pub fn thermal_totals(
 }
 
 /// The sums with the projects that a year adds.
-pub fn group_totals(
+fn group_totals(
     costs: &CostData,
     before: &Config,
     after: &Config,
@@ -196,7 +193,28 @@ pub fn group_totals(
     let first = costs.thermal.as_slice().len();
     let mut totals = thermal;
     for k in 0..groups.len() {
-        totals = totals.add_projects(&groups[k], before.get(first + k), after.get(first + k), horizon);
+        totals = totals.add_projects(
+            &groups[k],
+            before.get(first + k),
+            after.get(first + k),
+            horizon,
+        );
     }
     totals
+}
+
+/// The sums over all that a year adds.
+#[tactic(auto, using(crate::proofs::Steps::adds_more))]
+pub fn year_totals(costs: &CostData, before: &Config, after: &Config, horizon: &Horizon) -> Totals
+    requires costs { IsEconomy costs.now }
+    requires before { Fits costs.now before.now }
+    requires after { Fits costs.now after.now }
+    requires grows { IsAtMost before.now after.now }
+    requires horizon { IsHorizon horizon.now }
+    ensures adds { Adds horizon.now nothing (items costs.now before.now after.now) result }
+    ensures within { IsWithin horizon.now result }
+    ensures mw { result.mw ≤ 40000000 }
+{
+    let thermal = thermal_totals(costs, before, after, horizon);
+    group_totals(costs, before, after, horizon, thermal)
 }

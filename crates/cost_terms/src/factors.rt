@@ -1,5 +1,5 @@
 //! The discount factors of an economy, made once.
-ghost use Rattle.std.specs.Prelude.{◌≤◌};
+ghost use Rattle.std.specs.Prelude.{◌*◌, ◌≤◌};
 ghost use Rattle.wasp_fixed.specs.Discounts.{end_factor, mid_factor};
 ghost use Rattle.cost_terms.specs.Cost.{fuel_factor};
 ghost use Rattle.cost_terms.specs.Factors.{AreFactors, IsColumn};
@@ -28,7 +28,7 @@ pub struct Factors {
 /// The worth of `ONE` at the end of each number of years.
 fn end_column(rate: u64) -> Column
     requires { rate ≤ 10000 }
-    ensures { IsColumn (end_factor rate) result }
+    ensures { IsColumn (end_factor rate) ONE result }
 {
     let mut column = [0; 31];
     for k in 0..31usize {
@@ -40,7 +40,7 @@ fn end_column(rate: u64) -> Column
 /// The worth of `ONE` in the middle of the year after each number of years.
 fn middle_column(rate: u64) -> Column
     requires { rate ≤ 10000 }
-    ensures { IsColumn (mid_factor rate) result }
+    ensures { IsColumn (mid_factor rate) ONE result }
 {
     let mut column = [0; 31];
     for k in 0..31usize {
@@ -50,10 +50,11 @@ fn middle_column(rate: u64) -> Column
 }
 
 /// The same of what costs more each year, by the rate `escalation`.
+#[tactic(auto, using(crate::proofs::FactorBounds::escalated_most, crate::proofs::FactorBounds::fuel_most), unfolding(crate::specs::Cost::escalated))]
 fn fuel_column(rate: u64, escalation: u64) -> Column
     requires rate { rate ≤ 10000 }
     requires escalation { escalation ≤ 1000 }
-    ensures { IsColumn (fuel_factor rate escalation) result }
+    ensures { IsColumn (fuel_factor rate escalation) (18 * ONE) result }
 {
     let mut column = [0; 31];
     let mut price = ONE;

@@ -1,5 +1,5 @@
 //! What running a configuration for a year costs, before it is discounted.
-ghost use Rattle.std.specs.Prelude.{◌≡◌, ◌+◌, ◌-◌, ◌*◌, ◌<◌, ◌≤◌, ◌^◌, All};
+ghost use Rattle.std.specs.Prelude.{◌≡◌, ◌+◌, ◌-◌, ◌*◌, ◌<◌, ◌≤◌, ◌^◌, All, length};
 ghost use Rattle.cost_terms.specs.Cost.{groups_fixed, plants_fixed, projects_mw, shortage_cost, thermal_fixed, weighted_cents, unserved_cents};
 ghost use Rattle.cost_terms.specs.CostData.{Fits, IsEconomy, IsGroupCost, IsRow};
 
@@ -63,7 +63,8 @@ fn groups_fixed(costs: &CostData, config: &Config) -> u64
     let first = costs.thermal.as_slice().len();
     let mut total = 0;
     for k in 0..groups.len() {
-        total += projects_mw(&groups[k], config.get(first + k)) * groups[k].fixed;
+        let group = &groups[k];
+        total += projects_mw(group, config.get(first + k)) * group.fixed;
     }
     total
 }
@@ -81,6 +82,7 @@ pub fn fixed_of(costs: &CostData, year: u64, config: &Config) -> u64
 }
 
 /// What so many MWh not served cost in a year with a demand, in cents.
+#[tactic(auto, using(crate::proofs::Amounts::scaled_most, crate::proofs::Amounts::priced_most))]
 fn shortage_cost(price: &ShortagePrice, demand: u64, short: u64) -> u64
     requires plain { price.now.plain ≤ 10000000 }
     requires linear { price.now.linear ≤ 10000000 }
@@ -94,15 +96,17 @@ fn shortage_cost(price: &ShortagePrice, demand: u64, short: u64) -> u64
         return short * price.plain;
     }
     let lesser = short.min(demand);
-    let scaled = u128::from(price.plain) * u128::from(demand * demand)
-        + u128::from(price.linear) * u128::from(demand * lesser)
-        + u128::from(price.square) * u128::from(lesser * lesser);
-    (u128::from(short) * scaled / u128::from(demand * demand)) as u64
+    let whole = (demand * demand) as u128;
+    let scaled = price.plain as u128 * whole
+        + price.linear as u128 * (demand * lesser) as u128
+        + price.square as u128 * (lesser * lesser) as u128;
+    (short as u128 * scaled / whole) as u64
 }
 
 /// The cost of energy not served, weighted over the hydro conditions, in cents.
-fn weighted_cents(costs: &CostData, demand: u64, shorts: &[u64; 5]) -> u64
+fn weighted_cents(costs: &CostData, demand: u64, shorts: &[u64]) -> u64
     requires costs { IsEconomy costs.now }
+    requires long { length costs.now.weights ≤ length shorts.now }
     requires demand { demand < 2 ^ 32 }
     requires shorts { All (λ u. u < 2 ^ 32) shorts.now }
     ensures value { result ≡ weighted_cents costs.now demand shorts.now }
@@ -111,7 +115,7 @@ fn weighted_cents(costs: &CostData, demand: u64, shorts: &[u64; 5]) -> u64
     let weights = costs.weights.as_slice();
     let mut total = 0u128;
     for k in 0..weights.len() {
-        total += u128::from(weights[k]) * u128::from(shortage_cost(&costs.shortage, demand, shorts[k]));
+        total += weights[k] as u128 * shortage_cost(&costs.shortage, demand, shorts[k]) as u128;
     }
     (total / 10_000) as u64
 }

@@ -1,11 +1,17 @@
 //! The terms of a year's cost.
 ghost use Rattle.std.specs.Prelude.{◌≡◌, ◌+◌, ◌-◌, ◌*◌, ◌/◌, ◌^◌, ◌<◌, ◌≤◌};
 ghost use Rattle.plant_data.specs.Configs.{IsAtMost};
-ghost use Rattle.cost_terms.specs.Cost.{build, fuel, salvage, stock, unserved, upkeep};
-ghost use Rattle.cost_terms.specs.CostData.{Fits, IsRow};
+ghost use Rattle.cost_terms.specs.Cost.{SalvageIsWithinBuild, build, fuel, horizon, salvage, step_cost, stock, unserved, upkeep};
+ghost use Rattle.cost_terms.specs.CostData.{Fits, IsEconomy, IsRow};
+ghost use Rattle.cost_terms.specs.Factors.{AreFactors};
+ghost use Rattle.cost_terms.specs.Table.{IsEntry};
+ghost use Rattle.cost_terms.specs.Totals.{IsHorizon};
 
-use crate::additions::{Horizon, group_totals, thermal_totals};
+use crate::additions::{Horizon, year_totals};
 use crate::economy::Economy;
+use crate::entries::Scored;
+use crate::factors::Factors;
+use crate::prices::CostData;
 use crate::running::{fixed_of, unserved_cents};
 use plant_data::{Config, Row};
 use wasp_fixed::{ONE, mul_div_floor};
@@ -60,8 +66,90 @@ fn both_worth(domestic: u64, factor: u64, foreign: u64, factor_abroad: u64, whol
     requires room { domestic * factor + foreign * factor_abroad < 2 ^ 128 }
     ensures { result ≡ (domestic * factor + foreign * factor_abroad) / whole }
 {
-    let sum = u128::from(domestic) * u128::from(factor) + u128::from(foreign) * u128::from(factor_abroad);
+    let sum = u128::from(domestic) * u128::from(factor)
+        + u128::from(foreign) * u128::from(factor_abroad);
     (sum / u128::from(whole)) as u64
+}
+
+/// The horizon as a year sees it.
+fn horizon_of(costs: &CostData, factors: &Factors, year: u64) -> Horizon
+    requires years { costs.now.years ≤ 30 }
+    requires last { year ≤ costs.now.years }
+    requires factors { AreFactors costs.now factors.now }
+    ensures value { result ≡ horizon costs.now year }
+    ensures worth { IsHorizon result }
+{
+    let end = costs.years as usize;
+    Horizon {
+        ahead: costs.years - year + 1,
+        domestic: factors.end_domestic[end],
+        foreign: factors.end_foreign[end],
+    }
+}
+
+/// The terms of the additions of a year.
+fn build_terms(
+    costs: &CostData,
+    factors: &Factors,
+    year: u64,
+    before: &Config,
+    after: &Config,
+) -> Built
+    requires costs { IsEconomy costs.now }
+    requires factors { AreFactors costs.now factors.now }
+    requires first { 1 ≤ year }
+    requires last { year ≤ costs.now.years }
+    requires before { Fits costs.now before.now }
+    requires after { Fits costs.now after.now }
+    requires grows { IsAtMost before.now after.now }
+    ensures build { result.build ≡ build costs.now year before.now after.now }
+    ensures salvage { result.salvage ≡ salvage costs.now year before.now after.now }
+    ensures stock { result.stock ≡ stock costs.now year before.now after.now }
+    ensures regained { result.salvage ≤ result.build }
+    ensures small { result.build + result.stock ≤ 10 ^ 16 }
+{
+    let horizon = horizon_of(costs, factors, year);
+    let totals = year_totals(costs, before, after, &horizon);
+    let now = (year - 1) as usize;
+    let worth = factors.end_domestic[now];
+    let abroad = factors.end_foreign[now];
+    Built {
+        build: both_worth(totals.domestic, worth, totals.foreign, abroad, ONE),
+        salvage: totals.salvage,
+        stock: mul_div_floor(totals.inventory, worth - horizon.domestic, ONE),
+    }
+}
+
+/// The terms of running a configuration for a year.
+fn run_terms(costs: &CostData, factors: &Factors, year: u64, config: &Config, row: &Row) -> Ran
+    requires costs { IsEconomy costs.now }
+    requires factors { AreFactors costs.now factors.now }
+    requires first { 1 ≤ year }
+    requires last { year ≤ costs.now.years }
+    requires fits { Fits costs.now config.now }
+    requires row { IsRow row.now }
+    ensures fuel { result.fuel ≡ fuel costs.now year row.now }
+    ensures upkeep { result.upkeep ≡ upkeep costs.now year config.now row.now }
+    ensures unserved { result.unserved ≡ unserved costs.now year row.now }
+    ensures small { result.fuel + result.upkeep + result.unserved ≤ 10 ^ 16 }
+{
+    let now = (year - 1) as usize;
+    let domestic = factors.fuel_domestic[now];
+    let abroad = factors.fuel_foreign[now];
+    let middle = factors.middle[now];
+    let cents = 12_000 * fixed_of(costs, year, config) + row.variable;
+    let short = unserved_cents(costs, year, row);
+    Ran {
+        fuel: both_worth(
+            row.fuel_domestic,
+            domestic,
+            row.fuel_foreign,
+            abroad,
+            100_000 * ONE,
+        ),
+        upkeep: mul_div_floor(cents, middle, 100 * ONE),
+        unserved: mul_div_floor(short, middle, 100 * ONE),
+    }
 }
 
 /// The terms of the additions of a year, counted from 1, from the counts before it to those after. It takes
@@ -78,29 +166,7 @@ pub fn build_cost(economy: &Economy, year: u64, before: &Config, after: &Config)
     ensures regained { result.salvage ≤ result.build }
     ensures small { result.build + result.stock ≤ 10 ^ 16 }
 {
-    let costs = economy.costs();
-    let factors = economy.factors();
-    let now = (year - 1) as usize;
-    let end = costs.years as usize;
-    let horizon = Horizon {
-        ahead: costs.years - year + 1,
-        domestic: factors.end_domestic[end],
-        foreign: factors.end_foreign[end],
-    };
-    let thermal = thermal_totals(costs, before, after, &horizon);
-    let totals = group_totals(costs, before, after, &horizon, thermal);
-    let held = factors.end_domestic[now] - horizon.domestic;
-    Built {
-        build: both_worth(
-            totals.domestic,
-            factors.end_domestic[now],
-            totals.foreign,
-            factors.end_foreign[now],
-            ONE,
-        ),
-        salvage: totals.salvage,
-        stock: mul_div_floor(totals.inventory, held, ONE),
-    }
+    build_terms(economy.costs(), economy.factors(), year, before, after)
 }
 
 /// The terms of running a configuration for a year, counted from 1, with its row. It takes no memory and
@@ -115,20 +181,28 @@ pub fn run_cost(economy: &Economy, year: u64, config: &Config, row: &Row) -> Ran
     ensures unserved { result.unserved ≡ unserved economy.now year row.now }
     ensures small { result.fuel + result.upkeep + result.unserved ≤ 10 ^ 16 }
 {
-    let costs = economy.costs();
-    let factors = economy.factors();
-    let now = (year - 1) as usize;
-    let middle = factors.middle[now];
-    let cents = 12_000 * fixed_of(costs, year, config) + row.variable;
-    Ran {
-        fuel: both_worth(
-            row.fuel_domestic,
-            factors.fuel_domestic[now],
-            row.fuel_foreign,
-            factors.fuel_foreign[now],
-            100_000 * ONE,
-        ),
-        upkeep: mul_div_floor(cents, middle, 100 * ONE),
-        unserved: mul_div_floor(unserved_cents(costs, year, row), middle, 100 * ONE),
-    }
+    run_terms(economy.costs(), economy.factors(), year, config, row)
+}
+
+/// No salvage is above its investment, whatever the economy, the year and the counts.
+#[tactic(auto, using(crate::proofs::Salvage::within_build))]
+pub fn salvage_is_within_build()
+    ensures { SalvageIsWithinBuild }
+{}
+
+/// The cost of a year, counted from 1, in dollars of present worth at the beginning of year 1, from the
+/// counts before it to a configuration with its row. It takes no memory and never refuses. Thirty such costs
+/// are below 10^18.
+pub fn step_cost(economy: &Economy, year: u64, before: &Config, after: &Scored) -> u64
+    requires first { 1 ≤ year }
+    requires last { year ≤ economy.now.years }
+    requires before { Fits economy.now before.now }
+    requires after { IsEntry economy.now after.now }
+    requires grows { IsAtMost before.now after.now.config }
+    ensures value { result ≡ step_cost economy.now year before.now after.now.config after.now.row }
+    ensures small { result ≤ 2 * 10 ^ 16 }
+{
+    let built = build_cost(economy, year, before, &after.config);
+    let ran = run_cost(economy, year, &after.config, &after.row);
+    built.net() + ran.total()
 }
