@@ -94,9 +94,9 @@ plants_of_year d s t low high =
     sum_kept (λ (p : PlantCost). slice_index p.units (t - 1)) (spec.plant_cost d) (λ p. is_there d (heads.Plant p)) (λ p. units_in d p t) 40
     (λ p from to. map_first_at (units_in d p) (years d) (t - 1) 0 (omega (arith, low, high)) ∙ ap (units_in d p) back)
     (λ p from to absent. ⊎_elim (λ some. absurd (differ (is_there d (heads.Plant p)) absent (plant_there d s p t from to (omega (arith, high, years_high d s)) some))) (λ none. omega (arith, none)) (cases_lt 0 (units_in d p t)))
-    where
-      differ : (b : Bool) → b ≡ false → b ≡ true → ⊥
-      differ b f t = cc
+  where
+    differ : (b : Bool) → b ≡ false → b ≡ true → ⊥
+    differ b f t = cc
 
 limit_is : (d : Says) → IsSound d → (t : ℕ) → 1 ≤ t → t ≤ years d → unit_limit (spec.costs d) t ≤ 128
 limit_is d s t low high =
@@ -120,12 +120,18 @@ economy_of_sound d s small = record {
   weights = weights_small d s;
   demand_years = length-map (first (years d)) (spec.demand d) ∙ length-first (years d);
   demand = small;
-  plants = (rw (length-map (spec.plant_numbers d) (spec.plant_cost d)) (few_kept (λ p. is_there d (heads.Plant p)) 40),
-  All-map (IsPlantCost (years d)) (spec.plant_cost d) (spec.plant_numbers d) (each_kept (λ p. IsPlantCost (years d) (spec.plant_cost d p)) (λ p. is_there d (heads.Plant p)) 40 (λ p from to there. plant_cost_is d s p from to there)));
-  thermal = (rw (length-map (thermal_numbers d) (spec.thermal_cost d)) (few_kept (λ k. is_there d (heads.Thermal k)) 12),
-  All-map IsThermalCost (spec.thermal_cost d) (thermal_numbers d) (each_kept (λ k. IsThermalCost (spec.thermal_cost d k)) (λ k. is_there d (heads.Thermal k)) 12 (λ k from to there. thermal_cost_is d s k there)));
-  groups = (rw (length-map (group_numbers d) (spec.group_cost d)) (few_kept (λ g. is_there d (heads.Hydro g)) 2),
-  All-map IsGroupCost (spec.group_cost d) (group_numbers d) (each_kept (λ g. IsGroupCost (spec.group_cost d g)) (λ g. is_there d (heads.Hydro g)) 2 (λ g from to there. group_cost_is d s g from to)));
+  plants = (
+    rw (length-map (spec.plant_numbers d) (spec.plant_cost d)) (few_kept (λ p. is_there d (heads.Plant p)) 40),
+    All-map (IsPlantCost (years d)) (spec.plant_cost d) (spec.plant_numbers d) (each_kept (λ p. IsPlantCost (years d) (spec.plant_cost d p)) (λ p. is_there d (heads.Plant p)) 40 (λ p from to there. plant_cost_is d s p from to there)),
+  );
+  thermal = (
+    rw (length-map (thermal_numbers d) (spec.thermal_cost d)) (few_kept (λ k. is_there d (heads.Thermal k)) 12),
+    All-map IsThermalCost (spec.thermal_cost d) (thermal_numbers d) (each_kept (λ k. IsThermalCost (spec.thermal_cost d k)) (λ k. is_there d (heads.Thermal k)) 12 (λ k from to there. thermal_cost_is d s k there)),
+  );
+  groups = (
+    rw (length-map (group_numbers d) (spec.group_cost d)) (few_kept (λ g. is_there d (heads.Hydro g)) 2),
+    All-map IsGroupCost (spec.group_cost d) (group_numbers d) (each_kept (λ g. IsGroupCost (spec.group_cost d g)) (λ g. is_there d (heads.Hydro g)) 2 (λ g from to there. group_cost_is d s g from to)),
+  );
   candidate = rw (sym (width_is d)) (width_low d s);
   few_units = λ t low high. limit_is d s t low high;
 }

@@ -20,10 +20,10 @@ range_more : (a n : ℕ) → range_with_len a (n + 1) ≡ range_with_len a n ++ 
 range_more a n =
     let e = map-range_with_len_more (λ (x : ℕ). x) a n (a + n) refl in
     sym (id_map (range_with_len a (n + 1))) ∙ e ∙ ap (λ (xs : List ℕ). xs ++ (a + n) ∷ []) (id_map (range_with_len a n))
-    where
-      id_map : (xs : List ℕ) → map (λ (x : ℕ). x) xs ≡ xs
-      id_map [] = refl
-      id_map (x ∷ xs) = ap (λ (t : List ℕ). x ∷ t) (id_map xs)
+  where
+    id_map : (xs : List ℕ) → map (λ (x : ℕ). x) xs ≡ xs
+    id_map [] = refl
+    id_map (x ∷ xs) = ap (λ (t : List ℕ). x ∷ t) (id_map xs)
 
 pub first_more : (n : ℕ) → first (n + 1) ≡ first n ++ (n + 1) ∷ []
 unfolding first

@@ -31,11 +31,12 @@ use Rattle.deck_check.proofs.Sound.{IsSound, periods_high, periods_low, periods_
 
 period_kinds : (n : ℕ) → allows kinds.Periods n ≡ true → 12 % n ≡ 0
 period_kinds n h = go n (each n h)
-    where
-      each : (n : ℕ) → allows kinds.Periods n ≡ true → (n ≡ 1) ⊎ ((n ≡ 2) ⊎ ((n ≡ 3) ⊎ ((n ≡ 4) ⊎ ((n ≡ 6) ⊎ (n ≡ 12)))))
-      each n h = grind (arith, nat_tests)
-      go : (n : ℕ) → (n ≡ 1) ⊎ ((n ≡ 2) ⊎ ((n ≡ 3) ⊎ ((n ≡ 4) ⊎ ((n ≡ 6) ⊎ (n ≡ 12))))) → 12 % n ≡ 0
-      go n = ⊎_elim (λ e. rw e refl) (⊎_elim (λ e. rw e refl) (⊎_elim (λ e. rw e refl) (⊎_elim (λ e. rw e refl) (⊎_elim (λ e. rw e refl) (λ e. rw e refl)))))
+  where
+    each : (n : ℕ) → allows kinds.Periods n ≡ true → (n ≡ 1) ⊎ ((n ≡ 2) ⊎ ((n ≡ 3) ⊎ ((n ≡ 4) ⊎ ((n ≡ 6) ⊎ (n ≡ 12)))))
+    each n h = grind (arith, nat_tests)
+
+    go : (n : ℕ) → (n ≡ 1) ⊎ ((n ≡ 2) ⊎ ((n ≡ 3) ⊎ ((n ≡ 4) ⊎ ((n ≡ 6) ⊎ (n ≡ 12))))) → 12 % n ≡ 0
+    go n = ⊎_elim (λ e. rw e refl) (⊎_elim (λ e. rw e refl) (⊎_elim (λ e. rw e refl) (⊎_elim (λ e. rw e refl) (⊎_elim (λ e. rw e refl) (λ e. rw e refl)))))
 
 periods_divide : (d : Says) → IsSound d → 12 % says.periods d ≡ 0
 periods_divide d s = period_kinds (says.periods d) (s.kinds heads.Periods 0 (periods_there d s) (omega arith) (omega (arith, (s.filled heads.Periods (periods_there d s)).some)))

@@ -57,13 +57,13 @@ fits d h most = record {
   least = length-map-range_with_len (λ k. number d h (2 * k + 0)) 0 (width d);
   width = length-map-range_with_len (λ k. number d h (2 * k + 1)) 0 (width d);
   most = λ k. ⊎_elim
-  (λ lt. let e : 2 * k + 0 ≡ 2 * k = omega arith in
-  let z : 0 + k ≡ k = omega arith in
-  rw (get_or-map-range_with_len (λ j. number d h (2 * j + 0)) 0 (width d) k k 0 lt z, get_or-map-range_with_len (λ j. number d h (2 * j + 1)) 0 (width d) k k 0 lt z, e) (most k lt))
-  (λ past. let a : length (counts_in d h 0) ≡ width d = length-map-range_with_len (λ j. number d h (2 * j + 0)) 0 (width d) in
-  let b : length (counts_in d h 1) ≡ width d = length-map-range_with_len (λ j. number d h (2 * j + 1)) 0 (width d) in
-  rw (get_or_past (counts_in d h 0) k 0 (omega (arith, a, past)), get_or_past (counts_in d h 1) k 0 (omega (arith, b, past))) (omega arith))
-  (cases_lt k (width d));
+      (λ lt. let e : 2 * k + 0 ≡ 2 * k = omega arith in
+      let z : 0 + k ≡ k = omega arith in
+      rw (get_or-map-range_with_len (λ j. number d h (2 * j + 0)) 0 (width d) k k 0 lt z, get_or-map-range_with_len (λ j. number d h (2 * j + 1)) 0 (width d) k k 0 lt z, e) (most k lt))
+      (λ past. let a : length (counts_in d h 0) ≡ width d = length-map-range_with_len (λ j. number d h (2 * j + 0)) 0 (width d) in
+      let b : length (counts_in d h 1) ≡ width d = length-map-range_with_len (λ j. number d h (2 * j + 1)) 0 (width d) in
+      rw (get_or_past (counts_in d h 0) k 0 (omega (arith, a, past)), get_or_past (counts_in d h 1) k 0 (omega (arith, b, past))) (omega arith))
+      (cases_lt k (width d));
 }
 
 pub tunnel_is : (deck : List Statement) (c t : ℕ) → IsTyped deck → 1 ≤ c → c ≤ cases (body_of deck) → 1 ≤ t → t ≤ years (body_of deck) → IsTunnelOf (greatest (body_of deck)) (tunnel (body_of deck) c t)
