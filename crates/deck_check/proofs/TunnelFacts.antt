@@ -12,7 +12,8 @@ use Rattle.deck_check.specs.DeckFault as rows
 use Rattle.deck_check.specs.DeckFault.{is_high, stated}
 use Rattle.deck_check.specs.FaultTable.{upto}
 use Rattle.deck_check.specs.Readings.{Says, cases, greatest, is_absent, is_there, number, numbers, width, years}
-use Rattle.deck_check.specs.TypedDeck.{IsTunnelOf, IsTyped, counts_in, tunnel, year_of}
+use Rattle.deck_check.specs.TypedDeck.{IsTyped, counts_in, tunnel, year_of}
+use Rattle.plant_data.specs.Tunnels.{IsTunnelOf}
 use Rattle.deck_check.proofs.Sound.{IsSound, in_upto, row_at, sound_is, stated_fails, unmet_three, unmet_two}
 
 -- the year whose statement holds, where year 1 has one
