@@ -1,0 +1,6 @@
+pub mod Curves
+pub mod Dispatch
+pub mod Engine
+pub mod Generation
+pub mod Loading
+pub mod Row

@@ -1,0 +1,6 @@
+//! The simulation of a configuration of a year.
+#![tactic(auto)]
+
+mod engine;
+
+pub use engine::SimEngine;
