@@ -4,3 +4,4 @@ pub mod Engine
 pub mod Generation
 pub mod Loading
 pub mod Row
+pub mod Stack

@@ -2,5 +2,6 @@
 #![tactic(auto)]
 
 mod engine;
+mod stack;
 
 pub use engine::SimEngine;
