@@ -1,1 +1,3 @@
 pub mod StackSteps
+pub mod BlockParts
+pub mod BlockSteps

@@ -1,17 +1,18 @@
 -- The row of a configuration: what a year's simulation answers, as MERSIM has it (IAEA Computer Manual Series
 -- No. 16). Each field but the shorts is the mean over the hydro conditions by their weights, rounded down once;
 -- the floors, and the bounds of the fields, are this program's own.
-use Rattle.std.specs.Prelude.{ℕ, ◌*◌, ◌/◌, ◌^◌, ◌<◌, ◌≤◌, nat_lt, List, length, map, sum, fold, max, slice_index, slice_index_or, if◌then◌else◌}
-use Rattle.std.specs.List.{range_with_len}
+use Rattle.std.specs.Prelude.{ℕ, ◌*◌, ◌/◌, ◌^◌, ◌<◌, ◌≤◌, nat_lt, List, length, map, sum, sum_by, fold, max, slice_index, slice_index_or, if◌then◌else◌}
+use Rattle.std.specs.List.{range_with_len, zip}
 use Rattle.wasp_fixed.specs.declared.numbers.TheConstants.{ONE}
 use Rattle.plant_data.specs.declared.row.Row.{Row}
 use Rattle.plant_data.specs.declared.plant.Unit.{Unit as Machine}
 use Rattle.plant_data.specs.Units.{no_unit}
+use Rattle.loading_order.specs.declared.blocks.Block.{Block}
 use Rattle.loading_order.specs.declared.blocks.Kind.{Kind}
 use Rattle.loading_order.specs.declared.blocks.Kind.TheVariants.{Base, Peak}
 use Rattle.year_system.specs.System.{System}
-use Rattle.sim_engine.specs.Dispatch.{dispatch, units}
-use Rattle.sim_engine.specs.Loading.{Dispatch, block_energy, lolp, no_block, unserved}
+use Rattle.sim_engine.specs.Dispatch.{dispatch, order, units}
+use Rattle.sim_engine.specs.Loading.{energies, lolp, unserved}
 
 -- the sum over the periods
 abbrev pub over_periods : System → (ℕ → ℕ) → ℕ
@@ -36,14 +37,18 @@ foreign_price u kind = heat_of u kind * u.foreign
 abbrev pub variable_price : Machine → Kind → ℕ
 variable_price u kind = u.variable
 
--- the sum over all blocks of a block's energy times its price
-abbrev pub priced : List Machine → (Machine → Kind → ℕ) → Dispatch → ℕ
-priced machines price d =
-    sum (map (λ k. block_energy d k * price (slice_index_or machines (slice_index_or d.order k no_block).unit no_unit) (slice_index_or d.order k no_block).kind) (range_with_len 0 (length d.order)))
+-- the sum over blocks of a block's energy times its price
+abbrev pub priced : List Machine → (Machine → Kind → ℕ) → List Block → List ℕ → ℕ
+priced machines price blocks energies =
+    sum_by (λ e. e.1 * price (slice_index_or machines e.0.unit no_unit) e.0.kind) (zip blocks energies)
+
+-- the same in a period under a condition
+abbrev pub period_priced : System → List ℕ → (Machine → Kind → ℕ) → ℕ → ℕ → ℕ
+period_priced s counts price m c = priced (units s counts) price (order s counts) (energies (dispatch s counts m c))
 
 -- that sum over the year, weighted
 abbrev pub year_priced : System → List ℕ → (Machine → Kind → ℕ) → ℕ
-year_priced s counts price = weighted s (λ c. over_periods s (λ m. priced (units s counts) price (dispatch s counts m c)))
+year_priced s counts price = weighted s (λ c. over_periods s (λ m. period_priced s counts price m c))
 
 -- the energy not served in the year under a condition
 abbrev pub year_unserved : System → List ℕ → ℕ → ℕ

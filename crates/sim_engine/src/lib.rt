@@ -2,6 +2,7 @@
 #![tactic(auto)]
 
 mod engine;
+mod period;
 mod stack;
 
 pub use engine::SimEngine;
