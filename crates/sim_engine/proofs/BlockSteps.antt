@@ -53,3 +53,7 @@ energy_is cells bs available top step hours k from area' ef ea =
 -- the energies so far, and one more
 pub energies_more : (f : ℕ → ℕ) (k : ℕ) → map f (range_with_len 0 (k + 1)) ≡ map f (range_with_len 0 k) ++ f k ∷ []
 energies_more f k = map-range_with_len_more f 0 k k (zero-add k)
+
+-- what is not served is at most what the range holds
+pub unserved_small : (area top hours : ℕ) → area ≤ top * ONE → area * hours / ONE ≤ top * hours
+unserved_small area top hours h = div-le_of_le-mul ONE (omega (arith, mul-le-mul_right hours h))

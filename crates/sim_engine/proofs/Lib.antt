@@ -1,3 +1,5 @@
 pub mod StackSteps
 pub mod BlockParts
 pub mod BlockSteps
+pub mod CostSteps
+pub mod WaterSteps
