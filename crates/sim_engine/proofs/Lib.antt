@@ -3,3 +3,5 @@ pub mod BlockParts
 pub mod BlockSteps
 pub mod CostSteps
 pub mod WaterSteps
+pub mod Fleets
+pub mod PieceSteps

@@ -1,8 +1,10 @@
 //! The simulation of a configuration of a year.
 #![tactic(auto)]
 
+mod condition;
 mod costs;
 mod engine;
+mod fleet;
 mod period;
 mod stack;
 mod water;
