@@ -5,3 +5,4 @@ pub mod CostSteps
 pub mod WaterSteps
 pub mod Fleets
 pub mod PieceSteps
+pub mod RowSteps

@@ -6,6 +6,7 @@ mod costs;
 mod engine;
 mod fleet;
 mod period;
+mod rows;
 mod stack;
 mod water;
 
