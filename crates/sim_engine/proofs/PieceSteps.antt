@@ -110,7 +110,7 @@ small_more s blocks n a b u v p q =
 parts_within : (n N : ℕ) → 1 ≤ N → n ≤ N → n * (8760 / N) ≤ 8760
 parts_within n N h l = omega (arith, mod-add-div 8760 N, mul-le-mul_right (8760 / N) l)
 
-energy_within : (S step n N : ℕ) → S * step ≤ 400000 → 1 ≤ N → n ≤ N → n * (S * (step * (8760 / N))) ≤ 3504000000
+pub energy_within : (S step n N : ℕ) → S * step ≤ 400000 → 1 ≤ N → n ≤ N → n * (S * (step * (8760 / N))) ≤ 3504000000
 energy_within S step n N p h l = omega (arith, mul-le-mul p (parts_within n N h l))
 
 -- what the sums of a year are at most

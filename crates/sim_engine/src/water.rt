@@ -1,6 +1,6 @@
 //! The load of a period, and what the hydro groups leave of it.
 ghost use Rattle.std.specs.Prelude.{◌≡◌, ℕ, ◌*◌, ◌/◌, ◌<◌, ◌≤◌, length, slice_index_or};
-ghost use Rattle.wasp_fixed.specs.Curves.{cell};
+ghost use Rattle.wasp_fixed.specs.Curves.{NeverRises, cell};
 ghost use Rattle.hydro_shave.specs.Hydro.{shifted};
 ghost use Rattle.year_system.specs.Capacity.{no_water};
 ghost use Rattle.year_system.specs.System.{Fits};
@@ -18,6 +18,7 @@ pub fn fill_load(system: &YearSystem, period: usize, curve: &mut Curve)
     requires room { load_cells system.now period ≤ curve.old.room }
     ensures value { cell curve.new.cells ≡ load_at system.now period }
     ensures len { length curve.new.cells ≡ load_cells system.now period }
+    ensures never_rises { NeverRises (cell curve.new.cells) }
     ensures room { curve.new.room ≡ curve.old.room }
 {
     let load = &system.loads()[period];
@@ -59,6 +60,7 @@ pub fn shift_base(
     requires condition { condition < length system.now.weights }
     ensures value { cell curve.new.cells ≡ shifted (cell curve.old.cells) ((slice_index_or (waters system.now config.now period condition) k no_water).base / system.now.step) }
     ensures no_longer { length curve.new.cells ≤ length curve.old.cells }
+    ensures never_rises { NeverRises (cell curve.old.cells) → NeverRises (cell curve.new.cells) }
     ensures room { curve.new.room ≡ curve.old.room }
 {
     let water = water_of(system, config, k, period, condition);
@@ -81,6 +83,7 @@ pub fn shave_peak(
     requires len { length curve.old.cells ≤ load_cells system.now period }
     ensures value { cell curve.new.cells ≡ above_peak system.now period (cell curve.old.cells) (slice_index_or (waters system.now config.now period condition) k no_water) }
     ensures no_longer { length curve.new.cells ≤ length curve.old.cells }
+    ensures never_rises { NeverRises (cell curve.old.cells) → NeverRises (cell curve.new.cells) }
     ensures room { curve.new.room ≡ curve.old.room }
 {
     let water = water_of(system, config, k, period, condition);
