@@ -9,3 +9,4 @@ pub mod RowSteps
 pub mod GenerationSteps
 pub mod TapeSteps
 pub mod Rooms
+mod WorkedRows

@@ -23,6 +23,8 @@ mod plain;
 mod rows;
 mod stack;
 mod tape;
+#[cfg(test)]
+mod tests;
 mod water;
 
 pub use engine::SimEngine;
