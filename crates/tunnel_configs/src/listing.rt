@@ -121,5 +121,4 @@ pub fn configs(
 /// order, whatever made it.
 pub fn listings_are_one()
     ensures { ListingsAreOne }
-{
-}
+{}
