@@ -1,10 +1,9 @@
 -- The costs of a deck that meets no row are those of an economy, where its demands are small.
-use Rattle.std.proofs.Common.{◌≡◌, ℕ, zero, suc, ◌+◌, ◌-◌, ◌*◌, ◌^◌, ◌<◌, ◌≤◌, Bool, true, false, List, [], ◌∷◌, ◌++◌, length, map, slice_index, All, refl, sym, ap, subst, ◌∙◌, arith, ⊎_elim}
-use Rattle.std.specs.Prelude.{filter, sum, sum_by}
+use Rattle.std.proofs.Common.{◌≡◌, ℕ, ◌+◌, ◌-◌, ◌^◌, ◌<◌, ◌≤◌, Bool, true, false, List, ◌++◌, length, map, slice_index, All, refl, sym, ap, subst, ◌∙◌, arith, ⊎_elim}
+use Rattle.std.specs.Prelude.{sum, sum_by}
 use Rattle.std.proofs.lemmas.Bool.{cases_Bool, cases_lt, not-false}
-use Rattle.std.proofs.lemmas.List.{get_or_default, length-append, length-map}
-use Rattle.std.proofs.lemmas.List.Elements.{All-map, All-weaker}
-use Rattle.std.proofs.lemmas.List.FromFn.{get_or-map-range_with_len}
+use Rattle.std.proofs.lemmas.List.{length-append, length-map}
+use Rattle.std.proofs.lemmas.List.Elements.{All-map}
 use Rattle.std.proofs.Common.{IfOk, Result, Ok, Err}
 use Rattle.cost_terms.specs.CostData as costs
 use Rattle.cost_terms.specs.CostData.{IsEconomy, IsGroupCost, IsPlantCost, IsProjectCost, IsThermalCost, unit_limit}
@@ -13,10 +12,8 @@ use Rattle.cost_terms.specs.declared.prices.GroupCost.{GroupCost}
 use Rattle.cost_terms.specs.declared.prices.PlantCost.{PlantCost}
 use Rattle.cost_terms.specs.declared.prices.ThermalCost.{ThermalCost}
 use Rattle.deck_lines.specs.Deck.{body_of}
-use Rattle.deck_lines.specs.declared.head.Head.{Head}
 use Rattle.deck_lines.specs.declared.head.Head.TheVariants as heads
 use Rattle.deck_lines.specs.declared.statement.Statement.{Statement}
-use Rattle.deck_check.specs.DeckFault as rows
 use Rattle.deck_check.specs.Economy as spec
 use Rattle.deck_check.specs.FaultTable.{upto}
 use Rattle.deck_check.specs.Readings as says

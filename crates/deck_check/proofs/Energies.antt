@@ -1,5 +1,5 @@
 -- The energy under a load duration curve, and the demand of a year.
-use Rattle.std.proofs.Common.{◌≡◌, ℕ, zero, suc, ◌+◌, ◌-◌, ◌*◌, ◌/◌, ◌^◌, ◌<◌, ◌≤◌, List, map, refl, sym, ap, subst, ◌∙◌, arith}
+use Rattle.std.proofs.Common.{◌≡◌, ℕ, ◌+◌, ◌-◌, ◌*◌, ◌/◌, ◌^◌, ◌<◌, ◌≤◌, List, map, refl, arith}
 use Rattle.std.specs.Prelude.{sum}
 use Rattle.std.specs.List.{range_with_len}
 use Rattle.std.proofs.lemmas.List.Sums.{sum_by_push}
@@ -10,14 +10,13 @@ use Rattle.load_curves.specs.LoadCurve.{load_curve}
 use Rattle.plant_data.specs.declared.shape.Load.{Load}
 use Rattle.wasp_fixed.specs.Curves.{area, cell}
 use Rattle.wasp_fixed.specs.declared.numbers.TheConstants.{ONE}
-use Rattle.year_system.specs.System.{IsLoad}
-use Rattle.deck_check.specs.Economy.{demand, energy}
-use Rattle.deck_check.specs.Readings.{Says, load_in, peak, periods, step, years}
+use Rattle.deck_check.specs.Economy.{energy}
+use Rattle.deck_check.specs.Readings.{load_in, peak, periods, step, years}
 use Rattle.deck_check.specs.TypedDeck.{IsTyped}
 use Rattle.deck_check.proofs.Firsts.{from_0_more}
-use Rattle.deck_check.proofs.LoadFacts.{load_is, peak_within}
-use Rattle.deck_check.proofs.PlantFacts.{step_high, step_low, strong}
-use Rattle.deck_check.proofs.Sound.{IsSound, sound_is}
+use Rattle.deck_check.proofs.LoadFacts.{peak_within}
+use Rattle.deck_check.proofs.PlantFacts.{step_low, strong}
+use Rattle.deck_check.proofs.Sound.{sound_is}
 
 pub energy_is : (step hours : ℕ) (l : Load) (cells : List ℕ) (n total : ℕ) → ((x : ℕ) → cell cells x ≡ load_curve l.peak step l.shape x) → n ≡ (l.peak + step - 1) / step → total ≡ area (cell cells) 0 n → total * step * hours / ONE ≡ energy step hours l
 energy_is step hours l cells n total same e is =

@@ -1,6 +1,6 @@
 -- The numbers of a statement in its form, by their places.
-use Rattle.std.proofs.Common.{◌≡◌, ℕ, zero, suc, ◌+◌, ◌-◌, ◌*◌, ◌%◌, ◌<◌, ◌≤◌, Bool, true, false, ◌&&◌, List, [], ◌∷◌, length, take, drop, slice_index, slice_index_or, Option, None, Some, refl, sym, ap, subst, ◌∙◌, arith, IsTrue, ⊎_elim}
-use Rattle.std.proofs.lemmas.Bool.{cases_lt, eqb-true, leb-true}
+use Rattle.std.proofs.Common.{◌≡◌, ℕ, zero, suc, ◌+◌, ◌-◌, ◌*◌, ◌%◌, ◌<◌, ◌≤◌, true, ◌&&◌, List, [], ◌∷◌, length, take, drop, slice_index, slice_index_or, ap, subst, ◌∙◌, arith, ⊎_elim}
+use Rattle.std.proofs.lemmas.Bool.{cases_lt, eqb-true}
 use Rattle.std.proofs.lemmas.Bool.Decides.{nat_tests}
 use Rattle.std.proofs.lemmas.List.{get_or-take, get_or-drop, get_or_past, length-drop, length-take}
 use Rattle.std.proofs.Math.Nat.{mod-eq-sub-mod, mod-eq_of_lt, mul-le-mul_right}
@@ -9,8 +9,7 @@ use Rattle.deck_lines.specs.Body.{BodyParts}
 use Rattle.deck_lines.specs.declared.form.Kind.{Kind}
 use Rattle.deck_lines.specs.declared.form.Kind.TheVariants as kinds
 use Rattle.deck_lines.specs.declared.head.Head.{Head}
-use Rattle.deck_lines.specs.declared.statement.Statement.{Statement}
-use Rattle.deck_lines.specs.Statements.{allows, allows_each, are_groups, index_of, is_named, is_statement, Layout, layout_of, word_of, IsStatement}
+use Rattle.deck_lines.specs.Statements.{allows, allows_each, are_groups, index_of, is_named, is_statement, layout_of, word_of, IsStatement}
 use Rattle.deck_check.specs.Forms.{bottom, form_of, kind_at, top, IsFilled, IsFormOf}
 
 pub kind_bounds : (kind : Kind) (n : ℕ) → allows kind n ≡ true → (bottom kind ≤ n) × (n ≤ top kind)

@@ -1,5 +1,5 @@
 -- What a deck that meets no row says of hydro groups and their water, and of the weights of the conditions.
-use Rattle.std.proofs.Common.{◌≡◌, ℕ, zero, suc, ◌+◌, ◌-◌, ◌*◌, ◌/◌, ◌%◌, ◌<◌, ◌≤◌, ◌==◌, ◌||◌, ◌&&◌, Bool, true, false, not, nat_le, nat_lt, List, [], ◌∷◌, ◌++◌, length, map, slice_index, slice_index_or, All, refl, sym, ap, subst, ◌∙◌, arith, ⊎_elim}
+use Rattle.std.proofs.Common.{◌≡◌, ℕ, ◌+◌, ◌*◌, ◌/◌, ◌%◌, ◌<◌, ◌≤◌, ◌==◌, ◌||◌, Bool, true, false, not, List, [], ◌∷◌, length, slice_index, slice_index_or, All, refl, sym, subst, ◌∙◌, arith, ⊎_elim}
 use Rattle.std.specs.Prelude.{sum}
 use Rattle.std.specs.List.{flat_map, list_any, range_with_len}
 use Rattle.std.proofs.lemmas.Bool.{both_ways, cases_Bool, eqb-true, not-false, or_parts}
@@ -10,15 +10,13 @@ use Rattle.std.proofs.lemmas.List.FromFn.{get_or-range_with_len, length-map-rang
 use Rattle.std.proofs.Math.Nat.{mul-add-mod_self_left, mul-mod_right, mul_assoc}
 use Rattle.deck_lines.specs.declared.form.Kind.{Kind}
 use Rattle.deck_lines.specs.declared.form.Kind.TheVariants as kinds
-use Rattle.deck_lines.specs.declared.head.Head.{Head}
 use Rattle.deck_lines.specs.declared.head.Head.TheVariants as heads
 use Rattle.deck_lines.specs.Statements.{from_to}
 use Rattle.year_system.specs.System.{IsGroup, IsWater}
-use Rattle.deck_check.specs.DeckFault as rows
 use Rattle.deck_check.specs.DeckFault.{is_off, is_water_off, stated}
 use Rattle.deck_check.specs.FaultTable.{only, upto}
-use Rattle.deck_check.specs.Forms.{bottom, top}
-use Rattle.deck_check.specs.Readings.{Says, first, group_of, group_water, is_absent, is_there, number, numbers, periods, project_water, projects, step, water_in, weights}
+use Rattle.deck_check.specs.Forms.{top}
+use Rattle.deck_check.specs.Readings.{Says, first, group_of, is_absent, is_there, number, numbers, periods, project_water, projects, step, water_in, weights}
 use Rattle.deck_check.proofs.Kept.{each_flat, each_from_0, length_flat}
 use Rattle.deck_check.proofs.PlantFacts.{on_step}
 use Rattle.deck_check.proofs.Sound.{IsSound, in_only, in_upto, most_at, row_at, stated_fails, unmet_one, unmet_three}

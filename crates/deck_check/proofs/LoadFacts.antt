@@ -1,13 +1,11 @@
 -- What a deck that meets no row says of loads, shapes and weights.
-use Rattle.std.proofs.Common.{◌≡◌, ℕ, zero, suc, ◌+◌, ◌-◌, ◌*◌, ◌/◌, ◌%◌, ◌<◌, ◌≤◌, ◌==◌, ◌&&◌, ◌||◌, max, Bool, true, false, not, cond, nat_le, nat_lt, List, [], ◌∷◌, length, map, slice_index, slice_index_or, All, refl, sym, ap, subst, ◌∙◌, arith, ⊎_elim}
-use Rattle.std.specs.Prelude.{fold, sum}
-use Rattle.std.specs.List.{list_any, range_with_len}
-use Rattle.std.proofs.lemmas.Bool.{and_cases, and_from, both_ways, cases_Bool, cases_lt, cond_both, eq-eqb, eqb-true, le-leb, leb-false, lt-ltb, ltb-false, not-false, or_parts}
+use Rattle.std.proofs.Common.{◌≡◌, ℕ, zero, suc, ◌+◌, ◌-◌, ◌*◌, ◌/◌, ◌<◌, ◌≤◌, ◌==◌, ◌&&◌, ◌||◌, max, Bool, true, false, not, nat_le, nat_lt, List, [], ◌∷◌, length, map, slice_index, slice_index_or, All, refl, sym, ap, subst, ◌∙◌, arith}
+use Rattle.std.specs.Prelude.{fold}
+use Rattle.std.specs.List.{range_with_len}
+use Rattle.std.proofs.lemmas.Bool.{and_from, eq-eqb, eqb-true, leb-false, lt-ltb, ltb-false, not-false, or_parts}
 use Rattle.std.proofs.lemmas.List.Folds.{list_any_at}
 use Rattle.std.proofs.lemmas.List.FromFn.{get_or-map-range_with_len, get_or-range_with_len, length-map-range_with_len, length-range_with_len}
-use Rattle.deck_lines.specs.declared.form.Kind.TheVariants as kinds
 use Rattle.deck_lines.specs.Deck.{body_of}
-use Rattle.deck_lines.specs.declared.head.Head.{Head}
 use Rattle.deck_lines.specs.declared.head.Head.TheVariants as heads
 use Rattle.deck_lines.specs.declared.statement.Statement.{Statement}
 use Rattle.deck_lines.specs.Statements.{from_to, shape}
@@ -15,15 +13,14 @@ use Rattle.deck_check.specs.TypedDeck.{IsTyped}
 use Rattle.plant_data.specs.Shapes.{IsFaultless, IsInRange, load_at, no_point, share_at}
 use Rattle.plant_data.specs.declared.shape.Load.{Load}
 use Rattle.plant_data.specs.declared.shape.Point.{Point}
-use Rattle.year_system.specs.System.{IsLoad, greatest_peak}
-use Rattle.deck_check.specs.DeckFault as rows
+use Rattle.year_system.specs.System.{IsLoad}
 use Rattle.deck_check.specs.DeckFault.{is_bad_point, names_shape, point_load, point_share, stated}
-use Rattle.deck_check.specs.FaultTable.{only, upto}
+use Rattle.deck_check.specs.FaultTable.{upto}
 use Rattle.deck_check.specs.Forms.{bottom, top}
-use Rattle.deck_check.specs.Readings.{Says, is_absent, is_there, load_in, loads, number, numbers, peak, periods, point_in, points, step, weights, years}
+use Rattle.deck_check.specs.Readings.{Says, is_absent, is_there, load_in, loads, number, numbers, peak, periods, point_in, points, years}
 use Rattle.deck_check.proofs.Forms.{AreCounted}
 use Rattle.deck_check.proofs.Kept.{each_from_0}
-use Rattle.deck_check.proofs.Sound.{IsSound, first_of_pair, in_only, in_upto, low_at, most_at, periods_low, row_at, second_of_pair, sound_is, stated_fails, unmet_one, unmet_two}
+use Rattle.deck_check.proofs.Sound.{IsSound, first_of_pair, in_upto, most_at, row_at, second_of_pair, sound_is, stated_fails, unmet_one, unmet_two}
 
 -- ---- the LOAD of a year
 

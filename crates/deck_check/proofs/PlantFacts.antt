@@ -1,23 +1,20 @@
 -- What a deck that meets no row says of plants, candidates and the step of the grid.
-use Rattle.std.proofs.Common.{◌≡◌, ℕ, zero, suc, ◌+◌, ◌-◌, ◌*◌, ◌%◌, ◌^◌, ◌<◌, ◌≤◌, ◌==◌, ◌||◌, ◌&&◌, Bool, true, false, not, cond, nat_le, nat_lt, List, [], ◌∷◌, ◌++◌, length, map, slice_index, slice_index_or, All, refl, sym, ap, subst, ◌∙◌, arith, ⊎_elim}
-use Rattle.std.specs.Prelude.{filter, sum, sum_by}
-use Rattle.std.proofs.lemmas.Bool.{and_from, both_ways, cases_Bool, cases_lt, eq-eqb, eqb-true, le-leb, lt-leb, lt-ltb, ltb-false, ltb-true, not-false, or_parts, or_left, or_right}
+use Rattle.std.proofs.Common.{◌≡◌, ℕ, zero, suc, ◌+◌, ◌-◌, ◌*◌, ◌%◌, ◌<◌, ◌≤◌, ◌==◌, ◌||◌, ◌&&◌, true, false, nat_lt, [], ◌∷◌, map, refl, sym, subst, arith, ⊎_elim}
+use Rattle.std.specs.Prelude.{sum}
+use Rattle.std.proofs.lemmas.Bool.{and_from, both_ways, cases_Bool, cases_lt, eqb-true, le-leb, lt-leb, ltb-false, not-false, or_parts, or_left}
 use Rattle.std.proofs.lemmas.List.{map-append}
 use Rattle.std.proofs.lemmas.List.Sums.{sum_by_push}
-use Rattle.deck_lines.specs.declared.form.Kind.TheVariants as kinds
 use Rattle.deck_lines.specs.declared.head.Head.{Head}
 use Rattle.deck_lines.specs.declared.head.Head.TheVariants as heads
 use Rattle.plant_data.specs.declared.plant.Plant.{Plant}
 use Rattle.year_system.specs.System.{IsPlant, full_mw}
 use Rattle.year_system.specs.System as system
-use Rattle.deck_check.specs.DeckFault as rows
 use Rattle.deck_check.specs.DeckFault.{is_off}
 use Rattle.deck_check.specs.FaultTable.{only, upto}
-use Rattle.deck_check.specs.Forms.{bottom, top}
-use Rattle.deck_check.specs.Readings.{Says, capacity, come, existing_in, first, fuel, full, gone, greatest, is_absent, is_there, least, number, number_or, peak, plant_head, plant_of, step, thermal, thermal_numbers, units, units_in, years}
+use Rattle.deck_check.specs.Readings.{Says, capacity, come, existing_in, first, fuel, full, is_absent, is_there, least, number, number_or, peak, plant_head, plant_of, step, thermal, units, units_in, years}
 use Rattle.deck_check.proofs.Firsts.{first_none}
 use Rattle.deck_check.proofs.Kept.{first_suc, sum_kept, sum_passed}
-use Rattle.deck_check.proofs.Sound.{IsSound, absent_number, in_only, in_upto, low_at, most_at, row_at, there_from_number, unmet_one, unmet_two, years_high}
+use Rattle.deck_check.proofs.Sound.{IsSound, absent_number, in_only, in_upto, low_at, most_at, row_at, unmet_one, unmet_two, years_high}
 
 -- ---- the step
 

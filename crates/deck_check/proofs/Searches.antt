@@ -1,7 +1,7 @@
 -- The searches for the least numbers and for the first row, one number or one row more.
-use Rattle.std.proofs.Common.{◌≡◌, ℕ, zero, suc, ◌+◌, ◌<◌, ◌≤◌, Bool, true, false, ◌&&◌, List, [], ◌∷◌, ◌++◌, length, map, take, slice_index_or, slice_get, Option, None, Some, IsTrue, All, refl, sym, ap, subst, ◌∙◌, arith, ⊎_elim}
-use Rattle.std.proofs.lemmas.Bool.{and_right, and_parts, and_left, cases_lt, cases_Bool, le-leb, lt-leb, leb-true, both_ways}
-use Rattle.std.proofs.lemmas.List.{take_more, take_all}
+use Rattle.std.proofs.Common.{◌≡◌, ℕ, zero, suc, ◌+◌, ◌<◌, ◌≤◌, false, List, [], ◌∷◌, length, map, take, slice_index_or, slice_get, Some, All, refl, sym, subst, arith, ⊎_elim}
+use Rattle.std.proofs.lemmas.Bool.{and_right, cases_lt}
+use Rattle.std.proofs.lemmas.List.{take_all}
 use Rattle.std.proofs.lemmas.List.Elements.{All-more, All-same}
 use Rattle.std.proofs.lemmas.Option.{slice_get_within}
 use Rattle.deck_check.specs.DeckFault.{IsFaultOf, table}
@@ -11,7 +11,7 @@ use Rattle.deck_check.specs.declared.fault.DeckFault.{DeckFault as Fault}
 use Rattle.deck_check.specs.declared.search.Place.{Place}
 use Rattle.deck_check.specs.declared.table.FaultRow.{FaultRow}
 use Rattle.deck_check.specs.declared.table.TheConstants.{TABLE}
-use Rattle.deck_check.specs.FaultTable.{IsLeast, IsLeastA, IsLeastB, IsLeastC, IsUnmet, Row, is_in, is_met, is_met_at_b, is_met_at_c}
+use Rattle.deck_check.specs.FaultTable.{IsLeast, IsUnmet, Row, is_in, is_met, is_met_at_b, is_met_at_c}
 
 pub none_more_b : (row : Row) (a b : ℕ) → ((y z : ℕ) → y < b → is_met_at_b row a y z ≡ false) → ((z : ℕ) → is_met_at_c row a b z ≡ false) → (y z : ℕ) → y < b + 1 → is_met_at_b row a y z ≡ false
 none_more_b row a b before none y z lt =

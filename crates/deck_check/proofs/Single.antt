@@ -1,9 +1,9 @@
 -- The first fault of a deck is the only one that the definition allows.
-use Rattle.std.proofs.Common.{◌≡◌, ℕ, zero, suc, ◌+◌, ◌<◌, ◌≤◌, Bool, true, false, List, [], ◌∷◌, length, take, slice_index_or, slice_get, Some, IsTrue, All, refl, sym, ap, subst, ◌∙◌, arith, ⊎_elim}
+use Rattle.std.proofs.Common.{◌≡◌, ℕ, zero, suc, ◌<◌, ◌≤◌, List, [], ◌∷◌, length, take, slice_index_or, slice_get, Some, IsTrue, All, sym, ap, subst, ◌∙◌, arith, ⊎_elim}
 use Rattle.std.proofs.lemmas.Bool.{both_ways, cases_order}
 use Rattle.std.proofs.lemmas.List.{get_or-take, length-take-le}
 use Rattle.std.proofs.lemmas.Option.{slice_get_within}
-use Rattle.deck_check.specs.DeckFault.{FaultsAreMet, FaultsAreSingle, HasNoFault, IsFaultOf, table}
+use Rattle.deck_check.specs.DeckFault.{FaultsAreMet, FaultsAreSingle, IsFaultOf, table}
 use Rattle.deck_check.specs.FaultTable.{IsLeast, IsUnmet, Row, is_met}
 use Rattle.deck_check.specs.Readings.{Says}
 use Rattle.deck_check.specs.declared.fault.DeckFault.{DeckFault as Fault}

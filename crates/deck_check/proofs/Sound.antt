@@ -1,9 +1,6 @@
 -- What is true of a deck in its form that meets no row of the fault table: single statements, loads and shapes.
-use Rattle.std.proofs.Common.{◌≡◌, ℕ, zero, suc, ◌+◌, ◌-◌, ◌*◌, ◌/◌, ◌%◌, ◌<◌, ◌≤◌, ◌==◌, ◌&&◌, ◌||◌, Bool, true, false, not, cond, nat_le, nat_lt, List, [], ◌∷◌, length, map, slice_index, slice_index_or, Option, None, Some, is_some, IfSome, IsTrue, All, refl, sym, ap, subst, ◌∙◌, arith, ⊎_elim}
-use Rattle.std.specs.List.{list_any, range_with_len}
-use Rattle.std.proofs.lemmas.Bool.{and_from, and_parts, both_ways, cases_Bool, cases_lt, eq-eqb, eqb-true, le-leb, leb-false, lt-ltb, ltb-false, not-false, or_parts}
-use Rattle.std.proofs.lemmas.List.Folds.{list_any_at}
-use Rattle.std.proofs.lemmas.List.FromFn.{get_or-map-range_with_len, get_or-range_with_len, length-map-range_with_len, length-range_with_len}
+use Rattle.std.proofs.Common.{◌≡◌, ℕ, ◌+◌, ◌*◌, ◌%◌, ◌<◌, ◌≤◌, ◌==◌, Bool, true, false, nat_le, List, [], ◌∷◌, length, slice_index, slice_index_or, Option, None, Some, is_some, IfSome, IsTrue, refl, sym, subst, arith, ⊎_elim}
+use Rattle.std.proofs.lemmas.Bool.{and_from, both_ways, cases_Bool, cases_lt, eq-eqb, le-leb, not-false}
 use Rattle.std.proofs.Math.Nat.{mul-add-mod_self_left, mul-mod_right}
 use Rattle.deck_lines.proofs.Placed.{found_fits}
 use Rattle.deck_lines.specs.Body.{BodyParts}
@@ -14,13 +11,11 @@ use Rattle.deck_lines.specs.declared.head.Head.{Head}
 use Rattle.deck_lines.specs.declared.head.Head.TheVariants as heads
 use Rattle.deck_lines.specs.declared.statement.Statement.{Statement}
 use Rattle.deck_lines.specs.Statements.{allows, is_name, is_statement, IsStatement}
-use Rattle.plant_data.specs.Shapes.{IsFaultless, IsInRange, load_at, no_point, share_at}
-use Rattle.plant_data.specs.declared.shape.Point.{Point}
 use Rattle.deck_check.specs.DeckFault as rows
 use Rattle.deck_check.specs.DeckFault.{HasNoFault, is_bad_point, names_shape, point_load, point_share, stated, table}
-use Rattle.deck_check.specs.FaultTable.{is_in, IsUnmet, only, Row, row_of_one, row_of_two, row_of_three, Span, upto}
+use Rattle.deck_check.specs.FaultTable.{is_in, IsUnmet, only, row_of_one, row_of_two, row_of_three, Span, upto}
 use Rattle.deck_check.specs.Forms.{bottom, form_of, IsFilled, IsFormOf, kind_at, top}
-use Rattle.deck_check.specs.Readings.{Says, cases, is_absent, is_there, number, number_or, numbers, numbers_in, periods, point_in, points, step, version, width, years}
+use Rattle.deck_check.specs.Readings.{Says, is_there, number, numbers, numbers_in, periods, width, years}
 use Rattle.deck_check.specs.TypedDeck.{IsTyped, head_of_id}
 use Rattle.deck_check.specs.declared.names.PlantId.{PlantId}
 use Rattle.deck_check.specs.declared.names.PlantId.TheVariants as ids

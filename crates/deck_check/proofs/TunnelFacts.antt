@@ -1,17 +1,15 @@
 -- The tunnel of a case in a year of a deck that meets no row is within the greatest counts.
-use Rattle.std.proofs.Common.{◌≡◌, ℕ, zero, suc, ◌+◌, ◌-◌, ◌*◌, ◌<◌, ◌≤◌, ◌==◌, ◌&&◌, ◌||◌, Bool, true, false, not, nat_lt, List, length, map, slice_index, refl, sym, ap, subst, ◌∙◌, arith, ⊎_elim}
-use Rattle.std.specs.List.{range_with_len}
-use Rattle.std.proofs.lemmas.Bool.{cases_Bool, cases_lt, eqb-true, ltb-false, not-false, or_parts}
+use Rattle.std.proofs.Common.{◌≡◌, ℕ, zero, suc, ◌+◌, ◌-◌, ◌*◌, ◌<◌, ◌≤◌, ◌==◌, ◌&&◌, ◌||◌, true, false, List, length, slice_index, subst, arith, ⊎_elim}
+use Rattle.std.proofs.lemmas.Bool.{cases_Bool, cases_lt, ltb-false, not-false, or_parts}
 use Rattle.std.proofs.lemmas.List.{get_or_past}
 use Rattle.std.proofs.lemmas.List.FromFn.{get_or-map-range_with_len, length-map-range_with_len}
 use Rattle.deck_lines.specs.Deck.{body_of}
 use Rattle.deck_lines.specs.declared.head.Head.{Head}
 use Rattle.deck_lines.specs.declared.head.Head.TheVariants as heads
 use Rattle.deck_lines.specs.declared.statement.Statement.{Statement}
-use Rattle.deck_check.specs.DeckFault as rows
 use Rattle.deck_check.specs.DeckFault.{is_high, stated}
 use Rattle.deck_check.specs.FaultTable.{upto}
-use Rattle.deck_check.specs.Readings.{Says, cases, greatest, is_absent, is_there, number, numbers, width, years}
+use Rattle.deck_check.specs.Readings.{Says, cases, greatest, is_absent, is_there, number, width, years}
 use Rattle.deck_check.specs.TypedDeck.{IsTyped, counts_in, tunnel, year_of}
 use Rattle.plant_data.specs.Tunnels.{IsTunnelOf}
 use Rattle.deck_check.proofs.Sound.{IsSound, in_upto, row_at, sound_is, stated_fails, unmet_three, unmet_two}

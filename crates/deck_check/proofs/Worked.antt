@@ -1,15 +1,13 @@
 -- Worked rows of the definitions.
-use Rattle.std.proofs.Common.{◌≡◌, ℕ, Bool, true, false, List, [], ◌∷◌, Option, None, Some, refl}
-use Rattle.deck_lines.specs.Body.{BodyParts}
+use Rattle.std.proofs.Common.{◌≡◌, ℕ, true, false, List, [], ◌∷◌, refl}
 use Rattle.deck_lines.specs.Deck.{body_of}
 use Rattle.deck_lines.specs.declared.head.Head.{Head}
 use Rattle.deck_lines.specs.declared.head.Head.TheVariants as heads
 use Rattle.deck_lines.specs.declared.statement.Statement.{Statement}
-use Rattle.plant_data.specs.declared.water.Water.{Water}
-use Rattle.deck_check.specs.DeckFault.{many_units, negative, no_case, no_load, old_form, shape_form, tunnel_high}
+use Rattle.deck_check.specs.DeckFault.{negative, no_case, no_load, old_form, shape_form, tunnel_high}
 use Rattle.deck_check.specs.FaultTable.{is_met}
-use Rattle.deck_check.specs.Readings.{Says, existing_in, first, group_water, greatest, units_in}
-use Rattle.deck_check.specs.TypedDeck.{margin, year_of}
+use Rattle.deck_check.specs.Readings.{Says, first, group_water, greatest, units_in}
+use Rattle.deck_check.specs.TypedDeck.{year_of}
 
 said : Head → List ℕ → Statement
 said h ns = record { head = h; body = record { name = []; numbers = ns } }

@@ -1,5 +1,5 @@
 -- The year whose statement holds, one year back.
-use Rattle.std.proofs.Common.{◌≡◌, ℕ, zero, suc, ◌+◌, ◌-◌, ◌<◌, ◌≤◌, false, refl, sym, ap, ◌∙◌, arith}
+use Rattle.std.proofs.Common.{◌≡◌, ℕ, suc, false, refl}
 use Rattle.deck_lines.specs.declared.head.Head.{Head}
 use Rattle.deck_check.specs.Readings.{Says, is_there}
 use Rattle.deck_check.specs.TypedDeck.{year_of}

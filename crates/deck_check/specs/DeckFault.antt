@@ -1,13 +1,13 @@
 -- The faults of a deck: one table, whose first row that the deck meets is its fault, with the least
 -- numbers. This program's own.
-use Rattle.std.specs.Prelude.{◌≡◌, ◌==◌, ◌&&◌, ◌||◌, ◌<◌, ℕ, ◌+◌, ◌-◌, ◌*◌, ◌/◌, ◌%◌, ◌^◌, nat_le, nat_lt, Bool, not, List, [], ◌∷◌, length, sum, slice_index, Some, IfSome, slice_get, All, take}
+use Rattle.std.specs.Prelude.{◌≡◌, ◌==◌, ◌&&◌, ◌||◌, ℕ, ◌+◌, ◌-◌, ◌*◌, ◌/◌, ◌%◌, ◌^◌, nat_le, nat_lt, Bool, not, List, [], ◌∷◌, length, sum, slice_index, Some, slice_get, All, take}
 use Rattle.std.specs.List.{list_any, range_with_len}
 use Rattle.deck_lines.specs.declared.head.Head.{Head}
 use Rattle.deck_lines.specs.declared.head.Head.TheVariants as heads
 use Rattle.year_system.specs.System.{size}
 use Rattle.deck_check.specs.declared.fault.DeckFault.{DeckFault as Fault}
-use Rattle.deck_check.specs.FaultTable.{Row, Span, upto, only, row_of_none, row_of_one, row_of_two, row_of_three, IsLeast, IsUnmet}
-use Rattle.deck_check.specs.Readings.{Says, is_there, is_absent, numbers, number, number_or, first, years, periods, cases, version, step, weights, plant_head, least, full, fuel, come, gone, units, capacity, peak, projects, greatest, width}
+use Rattle.deck_check.specs.FaultTable.{Row, upto, only, row_of_none, row_of_one, row_of_two, row_of_three, IsLeast, IsUnmet}
+use Rattle.deck_check.specs.Readings.{Says, is_there, is_absent, numbers, first, years, periods, cases, version, step, weights, plant_head, least, full, fuel, come, gone, units, capacity, peak, projects, greatest, width}
 
 -- the statement stands, and its numbers pass the test
 abbrev pub stated : Says → Head → (List ℕ → Bool) → Bool

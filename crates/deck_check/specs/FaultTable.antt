@@ -1,6 +1,6 @@
 -- What a row of the fault table is, and what it is to be met first. A row has a number, says where it is
 -- looked for, and when it is met there. This program's own.
-use Rattle.std.specs.Prelude.{◌≡◌, ◌==◌, ◌&&◌, ℕ, ◌≤◌, nat_le, Bool, true, false, IsTrue, Option, None, Some}
+use Rattle.std.specs.Prelude.{◌≡◌, ◌&&◌, ℕ, ◌≤◌, nat_le, Bool, false, IsTrue, Option, None, Some}
 use Rattle.deck_check.specs.declared.search.Place.{Place}
 use Rattle.deck_check.specs.declared.spans.Span.{Span as Ends}
 

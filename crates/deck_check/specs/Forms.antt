@@ -1,5 +1,5 @@
 -- What the numbers of a statement in its form are. This program's own.
-use Rattle.std.specs.Prelude.{◌≡◌, ℕ, ◌+◌, ◌*◌, ◌%◌, ◌≤◌, ◌<◌, List, length, slice_index, slice_index_or}
+use Rattle.std.specs.Prelude.{ℕ, ◌*◌, ◌%◌, ◌≤◌, ◌<◌, List, length, slice_index, slice_index_or}
 use Rattle.deck_lines.specs.declared.form.Kind.{Kind}
 use Rattle.deck_lines.specs.declared.form.Kind.TheVariants as kinds
 use Rattle.deck_lines.specs.declared.head.Head.{Head}

@@ -1,6 +1,6 @@
 -- A name lies in a fixed row of eight places, with zeros behind its bytes, so that equal names lie in
 -- equal rows. This program's own.
-use Rattle.std.specs.Prelude.{◌≡◌, ℕ, ◌-◌, ◌≤◌, ◌++◌, List, length, take, drop, replicate, IsTrue, All, ◌<◌}
+use Rattle.std.specs.Prelude.{◌≡◌, ℕ, ◌-◌, ◌≤◌, ◌++◌, List, length, take, drop, replicate, IsTrue}
 use Rattle.std.proofs.lemmas.List.{take-append-drop, length-take-le}
 use Rattle.deck_lines.specs.Statements.{is_name}
 use Rattle.deck_check.specs.declared.names.Name.TheInside.{Inside}

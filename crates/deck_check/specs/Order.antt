@@ -1,5 +1,4 @@
 -- The rows of the fault table by their names in the code, in order.
-use Rattle.std.specs.Prelude.{List, [], ◌∷◌, map}
 use Rattle.deck_check.specs.declared.table.FaultRow.{FaultRow}
 use Rattle.deck_check.specs.declared.table.FaultRow.TheVariants as rows
 use Rattle.deck_check.specs.DeckFault as spec

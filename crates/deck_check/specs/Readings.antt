@@ -1,7 +1,7 @@
 -- What a deck says of each head, and what that means: years, periods, weights, the units of a plant with
 -- additions and retirements, the data of plants, loads and hydro groups, the candidates. After FIXSYS and
 -- VARSYS of the IAEA's Computer Manual Series No. 16; the defaults are this program's own.
-use Rattle.std.specs.Prelude.{ℕ, ◌+◌, ◌-◌, ◌*◌, ◌/◌, ◌&&◌, nat_le, nat_lt, Bool, not, List, [], ◌∷◌, ◌++◌, length, map, filter, sum, sum_by, slice_index, codes, Option, None, Some, is_some, if◌then◌else◌}
+use Rattle.std.specs.Prelude.{ℕ, ◌+◌, ◌-◌, ◌*◌, ◌/◌, nat_le, nat_lt, Bool, not, List, [], ◌∷◌, ◌++◌, length, map, filter, sum, slice_index, codes, Option, None, Some, is_some, if◌then◌else◌}
 use Rattle.std.specs.List.{range_with_len, flat_map}
 use Rattle.std.specs.Str.{bytes_eq}
 use Rattle.deck_lines.specs.Body.{BodyParts}
@@ -14,7 +14,7 @@ use Rattle.plant_data.specs.declared.shape.Load.{Load}
 use Rattle.plant_data.specs.declared.shape.Point.{Point}
 use Rattle.plant_data.specs.declared.water.Group.{Group}
 use Rattle.plant_data.specs.declared.water.Water.{Water}
-use Rattle.year_system.specs.System.{System, full_mw, greatest_peak, size}
+use Rattle.year_system.specs.System.{System, greatest_peak}
 
 -- a deck as a map from heads to bodies
 abbrev pub Says : Type 0

@@ -1,7 +1,7 @@
 -- A deck that meets no row of the fault table, and what it says of cases: their tunnels, margins and limits
 -- hold from their year on, up to the next such statement of the case. After CONGEN and DYNPRO of the IAEA's
 -- Computer Manual Series No. 16; that a statement holds on is this program's own.
-use Rattle.std.specs.Prelude.{◌≡◌, ℕ, zero, suc, ◌+◌, ◌*◌, ◌≤◌, List, length, map, slice_index, Option, is_some, EachIndex, if◌then◌else◌}
+use Rattle.std.specs.Prelude.{◌≡◌, ℕ, zero, suc, ◌+◌, ◌*◌, ◌≤◌, List, length, map, slice_index, Option, if◌then◌else◌}
 use Rattle.std.specs.List.{range_with_len}
 use Rattle.std.specs.Option.{option_map}
 use Rattle.deck_lines.specs.Deck.{IsDeck, body_of}
@@ -12,7 +12,7 @@ use Rattle.plant_data.specs.declared.row.Limit.{Limit}
 use Rattle.plant_data.specs.declared.row.Margin.{Margin}
 use Rattle.plant_data.specs.declared.row.Tunnel.{Tunnel}
 use Rattle.deck_check.specs.DeckFault.{HasNoFault}
-use Rattle.deck_check.specs.Readings.{Says, is_there, numbers, number, width}
+use Rattle.deck_check.specs.Readings.{Says, is_there, number, width}
 use Rattle.deck_check.specs.declared.cases.CaseWord.{CaseWord}
 use Rattle.deck_check.specs.declared.cases.CaseWord.TheVariants as words
 use Rattle.deck_check.specs.declared.names.PlantId.{PlantId}

@@ -3,9 +3,9 @@
 //!
 //! FIXSYS and VARSYS of the IAEA's Computer Manual Series No. 16 read the existing and the candidate
 //! plants; this crate reads them, with loads and cases, from a deck's statements. It stands on `deck_lines`,
-//! `year_system` and `load_curves`. The contract that the layers above use: `check` refuses exactly with the
-//! first row of the table that the deck meets and its least numbers, and each reading of a `TypedDeck` is
-//! what its definition says of the deck, with every condition of the calls that take it.
+//! `year_system`, `cost_terms` and `load_curves`. The contract that the layers above use: `check` refuses
+//! exactly with the first row of the table that the deck meets and its least numbers, and each reading of a
+//! `TypedDeck` is what its definition says of the deck, with every condition of the calls that take it.
 //!
 //! The table and the defaults are this program's own. Limits: 30 years, 8 cases, 14 candidates.
 #![tactic(auto)]

@@ -252,6 +252,8 @@ fn the_economy_has_the_demand_of_each_year(rt: HostRuntime) -> Result<(), Fail> 
     {
         assert_eq!(rt; *demand, want);
     }
-    assert!(rt; costs.plants.as_slice()[0].units.as_slice() == [2, 2, 2].as_slice());
+    for plant in costs.plants.as_slice() {
+        assert!(rt; plant.full == 100 && plant.units.as_slice() == [2, 2, 2].as_slice());
+    }
     Ok(())
 }

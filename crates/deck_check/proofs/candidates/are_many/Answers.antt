@@ -1,5 +1,4 @@
-use Rattle.std.proofs.Common.{sym, ◌∙◌}
-use Rattle.std.proofs.lemmas.List.{get_or_read}
+use Rattle.std.proofs.Common.{sym}
 use Rattle.deck_check.proofs.Sizes.{size_above}
 use Rattle.deck_check.proofs.candidates.are_many.Goals as goal
 

@@ -1,5 +1,4 @@
-use Rattle.std.proofs.Common.{arith, refl, sym, ap, map, take}
-use Rattle.std.specs.Prelude.{filter}
+use Rattle.std.proofs.Common.{arith, sym, take}
 use Rattle.std.proofs.lemmas.Grind.{common_steps}
 use Rattle.std.proofs.lemmas.List.{append-nil}
 use Rattle.deck_check.proofs.Firsts.{first_none, kept_more_no, kept_more_yes}

@@ -1,4 +1,4 @@
-use Rattle.std.proofs.Common.{arith, sym, ◌∙◌}
+use Rattle.std.proofs.Common.{arith}
 use Rattle.std.proofs.lemmas.Grind.{common_steps}
 use Rattle.deck_check.proofs.Firsts.{kept_more_no, kept_more_yes}
 use Rattle.deck_check.proofs.candidates.write_thermal.Goals as goal

@@ -1,9 +1,9 @@
-use Rattle.std.proofs.Common.{◌≡◌, ◌+◌, ◌-◌, ◌*◌, ◌/◌, ◌<◌, ◌≤◌, ◌∙◌, arith}
+use Rattle.std.proofs.Common.{◌*◌, ◌/◌, ◌<◌, arith}
 use Rattle.deck_lines.specs.Deck.{body_of}
-use Rattle.deck_check.specs.Readings.{load_in, periods, step}
-use Rattle.deck_check.proofs.Energies.{demand_more, demand_small, load_cells}
+use Rattle.deck_check.specs.Readings.{periods}
+use Rattle.deck_check.proofs.Energies.{demand_more, load_cells}
 use Rattle.deck_check.proofs.LoadFacts.{load_is}
-use Rattle.deck_check.proofs.Sound.{periods_low, sound_is}
+use Rattle.deck_check.proofs.Sound.{sound_is}
 use Rattle.deck_check.proofs.economy.demand.Goals as goal
 
 pub energy-requires-clause-load : goal.energy-requires-clause-load

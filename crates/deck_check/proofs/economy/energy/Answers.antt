@@ -1,4 +1,4 @@
-use Rattle.std.proofs.Common.{◌≡◌, ℕ, ◌+◌, ◌-◌, ◌/◌, ap, arith, ◌∙◌}
+use Rattle.std.proofs.Common.{◌≡◌, ◌+◌, ◌-◌, ◌/◌, ap, arith, ◌∙◌}
 use Rattle.convolution.specs.CellList.{CellList}
 use Rattle.load_curves.proofs.Ceilings.{ceiling-div_ceil}
 use Rattle.deck_check.proofs.Energies.{energy_is, energy_small}

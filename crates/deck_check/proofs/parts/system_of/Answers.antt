@@ -1,10 +1,3 @@
-use Rattle.std.proofs.Common.{◌≡◌, List, ℕ, subst, sym}
-use Rattle.deck_lines.specs.Deck.{body_of}
-use Rattle.plant_data.specs.declared.plant.Plant.{Plant}
-use Rattle.plant_data.specs.declared.shape.Load.{Load}
-use Rattle.plant_data.specs.declared.water.Group.{Group}
-use Rattle.year_system.specs.System.{IsSystem}
-use Rattle.deck_check.specs.Readings as says
 use Rattle.deck_check.proofs.SystemFacts.{system_from}
 use Rattle.deck_check.proofs.parts.system_of.Goals as goal
 

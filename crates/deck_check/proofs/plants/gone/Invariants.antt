@@ -1,4 +1,4 @@
-use Rattle.std.proofs.Common.{◌≡◌, ◌+◌, ◌*◌, ◌≤◌, map}
+use Rattle.std.proofs.Common.{◌≡◌, ◌*◌, ◌≤◌, map}
 use Rattle.std.specs.Prelude.{sum}
 use Rattle.deck_lines.specs.Deck.{body_of}
 use Rattle.deck_lines.specs.declared.head.Head.TheVariants as heads

@@ -1,7 +1,6 @@
-use Rattle.std.proofs.Common.{All, arith, length}
+use Rattle.std.proofs.Common.{arith}
 use Rattle.deck_lines.specs.Deck.{body_of}
 use Rattle.deck_check.specs.DeckFault.{table}
-use Rattle.deck_check.specs.FaultTable.{IsUnmet}
 use Rattle.deck_check.specs.Order.{row_of}
 use Rattle.deck_check.proofs.Searches.{all_rows, first_row, none_more_rows}
 use Rattle.deck_check.proofs.search.first_fault.Goals as goal
