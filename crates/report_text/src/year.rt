@@ -1,7 +1,7 @@
 //! The lines of a year of the chosen plan.
-ghost use Rattle.std.specs.Prelude.{◌≡◌, ◌≤◌, ◌++◌, ◌∷◌, [], OnOk, length};
+ghost use Rattle.std.specs.Prelude.{◌≡◌, ◌<◌, ◌≤◌, ◌++◌, ◌∷◌, [], OnOk, length};
 ghost use Rattle.report_text.specs.Marks as spec;
-ghost use Rattle.report_text.specs.Marks.{is_lower, is_upper, marks};
+ghost use Rattle.report_text.specs.Marks.{is_lower, is_upper, mark_at, marks};
 ghost use Rattle.report_text.specs.Report.{HasWidths, chosen_line, edge_line, gen_line, gen_lines, id_word, risk_line, short_line, terms_line, year_text};
 
 use crate::data::{Generation, PlanYear};
@@ -38,6 +38,26 @@ fn mark(least: u64, width: u64, greatest: u64, count: u64) -> u8
     }
 }
 
+/// Appends the mark of the candidate at place `k`.
+fn push_mark(
+    greatest: &Config,
+    tunnel: &Tunnel,
+    config: &Config,
+    k: usize,
+    lines: &mut Vec<u8>,
+) -> Result<(), OutOfMemory>
+    requires within { k < length config.now }
+    requires greatest { length greatest.now ≡ length config.now }
+    requires least { length tunnel.now.least ≡ length config.now }
+    requires width { length tunnel.now.width ≡ length config.now }
+    ensures { OnOk result (lines.new.items ≡ lines.old.items ++ mark_at greatest.now tunnel.now config.now k) }
+{
+    let least = tunnel.least.get(k);
+    let width = tunnel.width.get(k);
+    lines.push(mark(least, width, greatest.get(k), config.get(k)))?;
+    Ok(())
+}
+
 /// Appends the marks of a configuration.
 fn push_marks(
     greatest: &Config,
@@ -51,13 +71,7 @@ fn push_marks(
     ensures { OnOk result (lines.new.items ≡ lines.old.items ++ marks greatest.now tunnel.now config.now) }
 {
     for k in 0..config.width() {
-        let mark = mark(
-            tunnel.least.get(k),
-            tunnel.width.get(k),
-            greatest.get(k),
-            config.get(k),
-        );
-        lines.push(mark)?;
+        push_mark(greatest, tunnel, config, k, lines)?;
     }
     Ok(())
 }
