@@ -45,9 +45,10 @@ load_cells deck t i typed low high lt =
     cells_few (step d) (load_in d t i).peak (step_low d s) (omega (arith, peak_within d t i lt, (strong d s t low high).0))
 
 pub demand_more : (f : ℕ → ℕ) (most total n x : ℕ) → (total ≡ sum (map f (range_with_len 0 n))) × (total ≤ most * n) → x ≡ f n → x ≤ most → (total + x ≡ sum (map f (range_with_len 0 (n + 1)))) × (total + x ≤ most * (n + 1))
-demand_more f most total n x h same few =
-    (rw (from_0_more f n, sum_by_push (λ (y : ℕ). y) (map f (range_with_len 0 n)) (f n), same, h.0) refl,
-    let e : most * (n + 1) ≡ most * n + most = omega arith in rw e (omega (arith, h.1, few)))
+demand_more f most total n x h same few = (
+  rw (from_0_more f n, sum_by_push (λ (y : ℕ). y) (map f (range_with_len 0 n)) (f n), same, h.0) refl,
+  let e : most * (n + 1) ≡ most * n + most = omega arith in rw e (omega (arith, h.1, few)),
+)
 
 pub demand_small : (periods total : ℕ) → 1 ≤ periods → total ≤ 400019 * (8760 / periods) * periods → total < 2 ^ 32
 demand_small periods total low h =

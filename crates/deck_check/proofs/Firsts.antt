@@ -4,7 +4,7 @@ use Rattle.std.specs.Prelude.{sum, sum_by, filter}
 use Rattle.std.specs.List.{flat_map, range_with_len}
 use Rattle.std.proofs.lemmas.List.{append-nil, flat_map_more, length-set, map-append, take_more_set}
 use Rattle.std.proofs.lemmas.List.Elements.{filter-append}
-use Rattle.std.proofs.lemmas.List.FromFn.{get_or-range_with_len, length-range_with_len, map-range_with_len_more, length-map-range_with_len}
+use Rattle.std.proofs.lemmas.List.FromFn.{get_or-map-range_with_len, get_or-range_with_len, length-range_with_len, map-range_with_len_more, length-map-range_with_len}
 use Rattle.std.proofs.lemmas.List.Sums.{sum_by_push}
 use Rattle.deck_check.specs.Readings.{first}
 
@@ -20,10 +20,10 @@ range_more : (a n : ℕ) → range_with_len a (n + 1) ≡ range_with_len a n ++ 
 range_more a n =
     let e = map-range_with_len_more (λ (x : ℕ). x) a n (a + n) refl in
     sym (id_map (range_with_len a (n + 1))) ∙ e ∙ ap (λ (xs : List ℕ). xs ++ (a + n) ∷ []) (id_map (range_with_len a n))
-    where
-      id_map : (xs : List ℕ) → map (λ (x : ℕ). x) xs ≡ xs
-      id_map [] = refl
-      id_map (x ∷ xs) = ap (λ (t : List ℕ). x ∷ t) (id_map xs)
+  where
+    id_map : (xs : List ℕ) → map (λ (x : ℕ). x) xs ≡ xs
+    id_map [] = refl
+    id_map (x ∷ xs) = ap (λ (t : List ℕ). x ∷ t) (id_map xs)
 
 pub first_more : (n : ℕ) → first (n + 1) ≡ first n ++ (n + 1) ∷ []
 unfolding first
@@ -77,3 +77,7 @@ pub set_from_0 : (f : ℕ → ℕ) (old new : List ℕ) (n k v : ℕ) → k < n 
 set_from_0 f old new n k v lt h e same =
     let within : k < length old = omega (arith, lt, h.0) in
     (rw (e, length-set old k v) h.0, rw (e, from_0_more f k, take_more_set old k v within, h.1, same) refl)
+
+pub map_first_at : {X : Type 0} (f : ℕ → X) (n i : ℕ) (d : X) → i < n → slice_index_or (map f (first n)) i d ≡ f (i + 1)
+unfolding first
+map_first_at f n i d lt = get_or-map-range_with_len f 1 n i (i + 1) d lt (omega arith)

@@ -92,12 +92,12 @@ form_is h b s =
     let counted : AreCounted (length form.group) form.least form.most (length ns) = groups_count form.group form.least form.most ns (groups_of h b s) in
     record {
       most = λ i. ⊎_elim
-      (λ lt. ⊎_elim
-      (λ some. (kind_bounds (kind_at form i) (slice_index ns i) (groups_at form.group form.least form.most ns some (groups_of h b s) i lt)).1)
-      (λ none. absurd (omega (arith, lt, counted.count, ap (λ (x : ℕ). counted.groups * x) (zero_of (length form.group) none))))
-      (cases_lt 0 (length form.group)))
-      (λ past. let e : slice_index ns i ≡ 0 = get_or_past ns i 0 past in rw e (omega arith))
-      (cases_lt i (length ns));
+          (λ lt. ⊎_elim
+          (λ some. (kind_bounds (kind_at form i) (slice_index ns i) (groups_at form.group form.least form.most ns some (groups_of h b s) i lt)).1)
+          (λ none. absurd (omega (arith, lt, counted.count, ap (λ (x : ℕ). counted.groups * x) (zero_of (length form.group) none))))
+          (cases_lt 0 (length form.group)))
+          (λ past. let e : slice_index ns i ≡ 0 = get_or_past ns i 0 past in rw e (omega arith))
+          (cases_lt i (length ns));
       few = rw counted.count (mul-le-mul_right (length form.group) counted.high);
     }
 
@@ -111,8 +111,8 @@ filled_is h b s =
     let counted : AreCounted (length form.group) form.least form.most (length ns) = groups_count form.group form.least form.most ns (groups_of h b s) in
     record {
       low = λ i lt. ⊎_elim
-      (λ some. (kind_bounds (kind_at form i) (slice_index ns i) (groups_at form.group form.least form.most ns some (groups_of h b s) i lt)).0)
-      (λ none. absurd (omega (arith, lt, counted.count, ap (λ (x : ℕ). counted.groups * x) (zero_of (length form.group) none))))
-      (cases_lt 0 (length form.group));
+          (λ some. (kind_bounds (kind_at form i) (slice_index ns i) (groups_at form.group form.least form.most ns some (groups_of h b s) i lt)).0)
+          (λ none. absurd (omega (arith, lt, counted.count, ap (λ (x : ℕ). counted.groups * x) (zero_of (length form.group) none))))
+          (cases_lt 0 (length form.group));
       some = rw counted.count (mul-le-mul_right (length form.group) counted.low);
     }

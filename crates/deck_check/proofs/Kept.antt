@@ -173,10 +173,10 @@ kept_step w p xs x total v same none h =
 
 pub sum_kept : {X : Type 0} (w : X → ℕ) (f : ℕ → X) (p : ℕ → Bool) (v : ℕ → ℕ) (n : ℕ) → ((x : ℕ) → 1 ≤ x → x ≤ n → w (f x) ≡ v x) → ((x : ℕ) → 1 ≤ x → x ≤ n → p x ≡ false → v x ≡ 0) → sum_by w (map f (filter p (first n))) ≡ sum (map v (first n))
 sum_kept w f p v n e none = fold-map (λ a x. a + w x) f 0 (filter p (first n)) ∙ weighed (λ x. w (f x)) p v n e none
-    where
-      weighed : (w : ℕ → ℕ) (p : ℕ → Bool) (v : ℕ → ℕ) (n : ℕ) → ((x : ℕ) → 1 ≤ x → x ≤ n → w x ≡ v x) → ((x : ℕ) → 1 ≤ x → x ≤ n → p x ≡ false → v x ≡ 0) → sum_by w (filter p (first n)) ≡ sum (map v (first n))
-      weighed w p v zero e none = rw first_none refl
-      weighed w p v (suc n) e none =
-          rw (first_suc n, map-append v (first n) (suc n ∷ []), sum_by_push (λ (x : ℕ). x) (map v (first n)) (v (suc n)))
-          (kept_step w p (first n) (suc n) (sum (map v (first n))) (v (suc n)) (λ h. e (suc n) (omega arith) (omega arith)) (none (suc n) (omega arith) (omega arith))
-          (weighed w p v n (λ x low high. e x low (omega (arith, high))) (λ x low high. none x low (omega (arith, high)))))
+  where
+    weighed : (w : ℕ → ℕ) (p : ℕ → Bool) (v : ℕ → ℕ) (n : ℕ) → ((x : ℕ) → 1 ≤ x → x ≤ n → w x ≡ v x) → ((x : ℕ) → 1 ≤ x → x ≤ n → p x ≡ false → v x ≡ 0) → sum_by w (filter p (first n)) ≡ sum (map v (first n))
+    weighed w p v zero e none = rw first_none refl
+    weighed w p v (suc n) e none =
+        rw (first_suc n, map-append v (first n) (suc n ∷ []), sum_by_push (λ (x : ℕ). x) (map v (first n)) (v (suc n)))
+        (kept_step w p (first n) (suc n) (sum (map v (first n))) (v (suc n)) (λ h. e (suc n) (omega arith) (omega arith)) (none (suc n) (omega arith) (omega arith))
+        (weighed w p v n (λ x low high. e x low (omega (arith, high))) (λ x low high. none x low (omega (arith, high)))))

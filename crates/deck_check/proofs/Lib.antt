@@ -1,3 +1,4 @@
+pub mod CostFacts
 pub mod Energies
 pub mod Firsts
 pub mod Forms
@@ -6,7 +7,9 @@ pub mod GroupFacts
 pub mod LoadFacts
 pub mod Peaks
 pub mod PlantFacts
+mod Worked
 pub mod Searches
+pub mod Single
 pub mod Sizes
 pub mod Sound
 pub mod SystemFacts

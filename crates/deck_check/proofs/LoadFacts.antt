@@ -85,8 +85,10 @@ pub points_range : (d : Says) → IsSound d → (x : ℕ) → All IsInRange (poi
 points_range d s x =
     let ns = numbers d (heads.Shape x) in
     each_from_0 IsInRange (point_in ns) (length ns / 2)
-    (λ i lt. (subst (λ k. number d (heads.Shape x) (2 * i) ≤ top k) (first_of_pair (from_to 0 10_000) (from_to 0 10_000) i) (most_at d s (heads.Shape x) (2 * i)),
-    subst (λ k. number d (heads.Shape x) (2 * i + 1) ≤ top k) (second_of_pair (from_to 0 10_000) (from_to 0 10_000) i) (most_at d s (heads.Shape x) (2 * i + 1))))
+    (λ i lt. (
+      subst (λ k. number d (heads.Shape x) (2 * i) ≤ top k) (first_of_pair (from_to 0 10_000) (from_to 0 10_000) i) (most_at d s (heads.Shape x) (2 * i)),
+      subst (λ k. number d (heads.Shape x) (2 * i + 1) ≤ top k) (second_of_pair (from_to 0 10_000) (from_to 0 10_000) i) (most_at d s (heads.Shape x) (2 * i + 1)),
+    ))
 
 -- what no point of a shape breaks
 record IsGoodPoint (ns : List ℕ) (i : ℕ) : Type 0 where
@@ -105,9 +107,9 @@ good_point ns i h =
       falls = λ lt. ltb-false (point_share ns (i - 1)) (point_share ns i) (or_parts (nat_le (point_load ns i) (point_load ns (i - 1))) (nat_lt (point_share ns (i - 1)) (point_share ns i)) (then (nat_lt 1 i) (nat_le (point_load ns i) (point_load ns (i - 1)) || nat_lt (point_share ns (i - 1)) (point_share ns i)) b.1 (lt-ltb 1 i lt))).1;
       last = λ e. eqb-true (point_load ns i) 10000 (not-false (point_load ns i == 10000) (then (i == length ns / 2) (not (point_load ns i == 10000)) a.1 (eq-eqb i (length ns / 2) e)));
     }
-    where
-      then : (a b : Bool) → (a && b) ≡ false → a ≡ true → b ≡ false
-      then a b f t = rw t at f
+  where
+    then : (a b : Bool) → (a && b) ≡ false → a ≡ true → b ≡ false
+    then a b f t = rw t at f
 
 load_of_point : (ns : List ℕ) (n i : ℕ) → i < n → load_at (map (point_in ns) (range_with_len 0 n)) i ≡ point_load ns (i + 1)
 load_of_point ns n i lt =
@@ -125,16 +127,16 @@ good_points ns n e some good =
     record {
       first = load_of_point ns n 0 some ∙ (good 1 (omega arith) some).first refl;
       rises = λ i lt. let next : i + 1 < n = omega (arith, lt, len) in
-      let here : i < n = omega (arith, next) in
-      let back : i + 1 + 1 - 1 ≡ i + 1 = omega arith in
-      rw (load_of_point ns n i here, load_of_point ns n (i + 1) next) (subst (λ k. point_load ns k < point_load ns (i + 1 + 1)) back ((good (i + 1 + 1) (omega arith) (omega (arith, next))).rises (omega arith)));
+          let here : i < n = omega (arith, next) in
+          let back : i + 1 + 1 - 1 ≡ i + 1 = omega arith in
+          rw (load_of_point ns n i here, load_of_point ns n (i + 1) next) (subst (λ k. point_load ns k < point_load ns (i + 1 + 1)) back ((good (i + 1 + 1) (omega arith) (omega (arith, next))).rises (omega arith)));
       falls = λ i lt. let next : i + 1 < n = omega (arith, lt, len) in
-      let here : i < n = omega (arith, next) in
-      let back : i + 1 + 1 - 1 ≡ i + 1 = omega arith in
-      rw (share_of_point ns n i here, share_of_point ns n (i + 1) next) (subst (λ k. point_share ns (i + 1 + 1) ≤ point_share ns k) back ((good (i + 1 + 1) (omega arith) (omega (arith, next))).falls (omega arith)));
+          let here : i < n = omega (arith, next) in
+          let back : i + 1 + 1 - 1 ≡ i + 1 = omega arith in
+          rw (share_of_point ns n i here, share_of_point ns n (i + 1) next) (subst (λ k. point_share ns (i + 1 + 1) ≤ point_share ns k) back ((good (i + 1 + 1) (omega arith) (omega (arith, next))).falls (omega arith)));
       last = let end : n - 1 < n = omega (arith, some) in
-      let again : n - 1 + 1 ≡ n = omega (arith, some) in
-      rw len (load_of_point ns n (n - 1) end ∙ ap (λ k. point_load ns k) again ∙ (good n some (omega arith)).last e);
+          let again : n - 1 + 1 ≡ n = omega (arith, some) in
+          rw len (load_of_point ns n (n - 1) end ∙ ap (λ k. point_load ns k) again ∙ (good n some (omega arith)).last e);
     }
 
 pub points_faultless : (d : Says) → IsSound d → (x : ℕ) → 1 ≤ x → x ≤ 100 → is_there d (heads.Shape x) ≡ true → IsFaultless (points d x)

@@ -59,22 +59,23 @@ sum_none f (suc n) h = rw (sum_last f n, h (suc n) (omega arith) (omega arith), 
 -- a plant with a unit in a year has its statement
 pub plant_there : (d : Says) → IsSound d → (p t : ℕ) → 1 ≤ p → p ≤ 40 → t ≤ 30 → 0 < units_in d p t → is_there d (heads.Plant p) ≡ true
 plant_there d s p t low high few some = ⊎_elim (λ h. h) (λ absent. absurd (omega (arith, some, none absent))) (cases_Bool (is_there d (heads.Plant p)))
-    where
-      no_add : is_there d (heads.Plant p) ≡ false → (u : ℕ) → 1 ≤ u → u ≤ t → number d (heads.Add p u) 0 ≡ 0
-      no_add absent u from to =
-          let fails = unmet_two 12 (upto 40) (λ x. upto 30) (λ x y. (is_there d (heads.Add x y) || is_there d (heads.Retire x y)) && is_absent d (heads.Plant x)) (row_at d s 11 (omega arith)) p u (in_upto 40 p low high) (in_upto 30 u from (omega (arith, to, few))) in
-          absent_number d (heads.Add p u) 0
-          (⊎_elim
-          (λ there. absurd (both_ways ((is_there d (heads.Add p u) || is_there d (heads.Retire p u)) && is_absent d (heads.Plant p)) fails
-          (and_from (is_there d (heads.Add p u) || is_there d (heads.Retire p u)) (is_absent d (heads.Plant p)) (or_left (is_there d (heads.Add p u)) (is_there d (heads.Retire p u)) there) (rw absent refl))))
-          (λ f. f)
-          (cases_Bool (is_there d (heads.Add p u))))
-      none : is_there d (heads.Plant p) ≡ false → units_in d p t ≡ 0
-      none absent =
-          let stand : number d (heads.Plant p) 0 ≡ 0 = absent_number d (heads.Plant p) 0 absent in
-          let added : sum (map (λ u. number d (heads.Add p u) 0) (first t)) ≡ 0 = sum_none (λ u. number d (heads.Add p u) 0) t (no_add absent) in
-          let all : come d p t ≡ 0 = rw (stand, added) refl in
-          omega (arith, all)
+  where
+    no_add : is_there d (heads.Plant p) ≡ false → (u : ℕ) → 1 ≤ u → u ≤ t → number d (heads.Add p u) 0 ≡ 0
+    no_add absent u from to =
+        let fails = unmet_two 12 (upto 40) (λ x. upto 30) (λ x y. (is_there d (heads.Add x y) || is_there d (heads.Retire x y)) && is_absent d (heads.Plant x)) (row_at d s 11 (omega arith)) p u (in_upto 40 p low high) (in_upto 30 u from (omega (arith, to, few))) in
+        absent_number d (heads.Add p u) 0
+        (⊎_elim
+        (λ there. absurd (both_ways ((is_there d (heads.Add p u) || is_there d (heads.Retire p u)) && is_absent d (heads.Plant p)) fails
+        (and_from (is_there d (heads.Add p u) || is_there d (heads.Retire p u)) (is_absent d (heads.Plant p)) (or_left (is_there d (heads.Add p u)) (is_there d (heads.Retire p u)) there) (rw absent refl))))
+        (λ f. f)
+        (cases_Bool (is_there d (heads.Add p u))))
+
+    none : is_there d (heads.Plant p) ≡ false → units_in d p t ≡ 0
+    none absent =
+        let stand : number d (heads.Plant p) 0 ≡ 0 = absent_number d (heads.Plant p) 0 absent in
+        let added : sum (map (λ u. number d (heads.Add p u) 0) (first t)) ≡ 0 = sum_none (λ u. number d (heads.Add p u) 0) t (no_add absent) in
+        let all : come d p t ≡ 0 = rw (stand, added) refl in
+        omega (arith, all)
 
 pub units_few : (d : Says) → IsSound d → (t : ℕ) → 1 ≤ t → t ≤ years d → units d t ≤ 128
 units_few d s t low high = ltb-false 128 (units d t) (unmet_two 19 (upto (years d)) (λ x. only (units d x)) (λ x n. nat_lt 128 n) (row_at d s 18 (omega arith)) t (units d t) (in_upto (years d) t low high) (in_only (units d t)))

@@ -37,11 +37,11 @@ pub none_more_rows : (rows : List Row) (place : ℕ) (row : Row) → slice_get r
 none_more_rows rows place row at before none =
     let lt : place < length rows = slice_get_within rows place row at in
     All-more IsUnmet rows place row lt before (subst IsUnmet (sym (read rows place row at)) none)
-    where
-      read : (rows : List Row) (place : ℕ) (row : Row) → slice_get rows place ≡ Some row → slice_index_or rows place row ≡ row
-      read [] place row at = absurd cc
-      read (r ∷ rows) zero row at = cc
-      read (r ∷ rows) (suc place) row at = read rows place row at
+  where
+    read : (rows : List Row) (place : ℕ) (row : Row) → slice_get rows place ≡ Some row → slice_index_or rows place row ≡ row
+    read [] place row at = absurd cc
+    read (r ∷ rows) zero row at = cc
+    read (r ∷ rows) (suc place) row at = read rows place row at
 
 pub first_row : (d : Says) (place : ℕ) (r : FaultRow) (p : Place) (fault : Fault) → slice_get (table d) place ≡ Some (row_of r d) → All IsUnmet (take place (table d)) → IsLeast (row_of r d) p.a p.b p.c
     → fault.number ≡ (row_of r d).number → fault.a ≡ p.a → fault.b ≡ p.b → fault.c ≡ p.c → IsFaultOf d fault

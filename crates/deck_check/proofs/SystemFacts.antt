@@ -13,9 +13,12 @@ use Rattle.deck_lines.specs.declared.statement.Statement.{Statement}
 use Rattle.deck_lines.specs.Deck.{body_of}
 use Rattle.deck_lines.specs.Statements.{allows}
 use Rattle.plant_data.specs.declared.plant.Plant.{Plant}
+use Rattle.plant_data.specs.declared.plant.Rule.{Rule}
+use Rattle.plant_data.specs.declared.shape.Load.{Load}
 use Rattle.plant_data.specs.declared.water.Group.{Group}
 use Rattle.plant_data.specs.Units.{HasRisingNumbers}
-use Rattle.year_system.specs.System.{IsGroup, IsLoad, IsPlant, IsSystem, full_mw, size, unit_limit}
+use Rattle.std.proofs.Common.{IfOk, Result, Ok, Err}
+use Rattle.year_system.specs.System.{System, IsGroup, IsLoad, IsPlant, IsSystem, full_mw, size, unit_limit}
 use Rattle.year_system.specs.System as system
 use Rattle.deck_check.specs.Readings as says
 use Rattle.deck_check.specs.Readings.{Says, first, is_there, number, numbers, plant_of, units_in, group_of, load_in}
@@ -28,11 +31,12 @@ use Rattle.deck_check.proofs.Sound.{IsSound, periods_high, periods_low, periods_
 
 period_kinds : (n : ℕ) → allows kinds.Periods n ≡ true → 12 % n ≡ 0
 period_kinds n h = go n (each n h)
-    where
-      each : (n : ℕ) → allows kinds.Periods n ≡ true → (n ≡ 1) ⊎ ((n ≡ 2) ⊎ ((n ≡ 3) ⊎ ((n ≡ 4) ⊎ ((n ≡ 6) ⊎ (n ≡ 12)))))
-      each n h = grind (arith, nat_tests)
-      go : (n : ℕ) → (n ≡ 1) ⊎ ((n ≡ 2) ⊎ ((n ≡ 3) ⊎ ((n ≡ 4) ⊎ ((n ≡ 6) ⊎ (n ≡ 12))))) → 12 % n ≡ 0
-      go n = ⊎_elim (λ e. rw e refl) (⊎_elim (λ e. rw e refl) (⊎_elim (λ e. rw e refl) (⊎_elim (λ e. rw e refl) (⊎_elim (λ e. rw e refl) (λ e. rw e refl)))))
+  where
+    each : (n : ℕ) → allows kinds.Periods n ≡ true → (n ≡ 1) ⊎ ((n ≡ 2) ⊎ ((n ≡ 3) ⊎ ((n ≡ 4) ⊎ ((n ≡ 6) ⊎ (n ≡ 12)))))
+    each n h = grind (arith, nat_tests)
+
+    go : (n : ℕ) → (n ≡ 1) ⊎ ((n ≡ 2) ⊎ ((n ≡ 3) ⊎ ((n ≡ 4) ⊎ ((n ≡ 6) ⊎ (n ≡ 12))))) → 12 % n ≡ 0
+    go n = ⊎_elim (λ e. rw e refl) (⊎_elim (λ e. rw e refl) (⊎_elim (λ e. rw e refl) (⊎_elim (λ e. rw e refl) (⊎_elim (λ e. rw e refl) (λ e. rw e refl)))))
 
 periods_divide : (d : Says) → IsSound d → 12 % says.periods d ≡ 0
 periods_divide d s = period_kinds (says.periods d) (s.kinds heads.Periods 0 (periods_there d s) (omega arith) (omega (arith, (s.filled heads.Periods (periods_there d s)).some)))
@@ -108,3 +112,15 @@ system_of_sound d s t low high =
 
 pub system_is : (deck : List Statement) (t : ℕ) → IsTyped deck → 1 ≤ t → t ≤ says.years (body_of deck) → IsSystem (says.system (body_of deck) t)
 system_is deck t typed low high = system_of_sound (body_of deck) (sound_is deck typed) t low high
+
+-- the system that is made of its parts
+pub system_from : (deck : List Statement) (t : ℕ) {r : Rule} {ls : List Load} {ws : List ℕ} {es ths : List Plant} {gs : List Group} {st : ℕ}
+    → IsTyped deck → 1 ≤ t → t ≤ says.years (body_of deck) → r ≡ says.rule (body_of deck) → ls ≡ says.loads (body_of deck) t → ws ≡ says.weights (body_of deck) → es ≡ says.existing_in (body_of deck) t
+    → ths ≡ says.thermal (body_of deck) → gs ≡ says.groups (body_of deck) → st ≡ says.step (body_of deck)
+    → IsSystem (record { rule = r; loads = ls; weights = ws; existing = es; thermal = ths; groups = gs; step = st })
+system_from deck t typed low high r ls ws es ths gs st =
+    subst IsSystem (sym (λ i. record { rule = r i; loads = ls i; weights = ws i; existing = es i; thermal = ths i; groups = gs i; step = st i })) (system_is deck t typed low high)
+
+pub system_counts : {E : Type 0} (d : Says) (t : ℕ) (r : Result System E) → IfOk r (λ s. s ≡ says.system d t) → IfOk r (λ s. system.greatest s ≡ says.greatest d)
+system_counts d t (Ok s) e = ap system.greatest e ∙ greatest_is d t
+system_counts d t (Err e) h = tt

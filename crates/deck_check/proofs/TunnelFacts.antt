@@ -12,7 +12,8 @@ use Rattle.deck_check.specs.DeckFault as rows
 use Rattle.deck_check.specs.DeckFault.{is_high, stated}
 use Rattle.deck_check.specs.FaultTable.{upto}
 use Rattle.deck_check.specs.Readings.{Says, cases, greatest, is_absent, is_there, number, numbers, width, years}
-use Rattle.deck_check.specs.TypedDeck.{IsTunnelOf, IsTyped, counts_in, tunnel, year_of}
+use Rattle.deck_check.specs.TypedDeck.{IsTyped, counts_in, tunnel, year_of}
+use Rattle.plant_data.specs.Tunnels.{IsTunnelOf}
 use Rattle.deck_check.proofs.Sound.{IsSound, in_upto, row_at, sound_is, stated_fails, unmet_three, unmet_two}
 
 -- the year whose statement holds, where year 1 has one
@@ -57,13 +58,13 @@ fits d h most = record {
   least = length-map-range_with_len (λ k. number d h (2 * k + 0)) 0 (width d);
   width = length-map-range_with_len (λ k. number d h (2 * k + 1)) 0 (width d);
   most = λ k. ⊎_elim
-  (λ lt. let e : 2 * k + 0 ≡ 2 * k = omega arith in
-  let z : 0 + k ≡ k = omega arith in
-  rw (get_or-map-range_with_len (λ j. number d h (2 * j + 0)) 0 (width d) k k 0 lt z, get_or-map-range_with_len (λ j. number d h (2 * j + 1)) 0 (width d) k k 0 lt z, e) (most k lt))
-  (λ past. let a : length (counts_in d h 0) ≡ width d = length-map-range_with_len (λ j. number d h (2 * j + 0)) 0 (width d) in
-  let b : length (counts_in d h 1) ≡ width d = length-map-range_with_len (λ j. number d h (2 * j + 1)) 0 (width d) in
-  rw (get_or_past (counts_in d h 0) k 0 (omega (arith, a, past)), get_or_past (counts_in d h 1) k 0 (omega (arith, b, past))) (omega arith))
-  (cases_lt k (width d));
+      (λ lt. let e : 2 * k + 0 ≡ 2 * k = omega arith in
+      let z : 0 + k ≡ k = omega arith in
+      rw (get_or-map-range_with_len (λ j. number d h (2 * j + 0)) 0 (width d) k k 0 lt z, get_or-map-range_with_len (λ j. number d h (2 * j + 1)) 0 (width d) k k 0 lt z, e) (most k lt))
+      (λ past. let a : length (counts_in d h 0) ≡ width d = length-map-range_with_len (λ j. number d h (2 * j + 0)) 0 (width d) in
+      let b : length (counts_in d h 1) ≡ width d = length-map-range_with_len (λ j. number d h (2 * j + 1)) 0 (width d) in
+      rw (get_or_past (counts_in d h 0) k 0 (omega (arith, a, past)), get_or_past (counts_in d h 1) k 0 (omega (arith, b, past))) (omega arith))
+      (cases_lt k (width d));
 }
 
 pub tunnel_is : (deck : List Statement) (c t : ℕ) → IsTyped deck → 1 ≤ c → c ≤ cases (body_of deck) → 1 ≤ t → t ≤ years (body_of deck) → IsTunnelOf (greatest (body_of deck)) (tunnel (body_of deck) c t)

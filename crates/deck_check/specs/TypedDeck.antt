@@ -51,12 +51,6 @@ margin d c t = record { low = number d (head_in d (heads.Margin c) t) 0; high = 
 abbrev pub limit : Says → ℕ → ℕ → Limit
 limit d c t = record { worst = number d (head_in d (heads.Lolp c) t) 0; average = number d (head_in d (heads.Lolp c) t) 1 }
 
--- least and width of a tunnel have a count for each candidate, and together none above its greatest
-pub record IsTunnelOf (greatest : List ℕ) (tunnel : Tunnel) : Type 0 where
-  pub least : length tunnel.least ≡ length greatest
-  pub width : length tunnel.width ≡ length greatest
-  pub most : (k : ℕ) → slice_index tunnel.least k + slice_index tunnel.width k ≤ slice_index greatest k
-
 -- the statement that names a plant, a candidate or a group
 abbrev pub head_of_id : PlantId → Head
 head_of_id (ids.Existing p) = heads.Plant p

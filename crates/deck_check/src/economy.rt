@@ -1,17 +1,20 @@
 //! The data of the costs, read from a deck that has no fault.
-ghost use Rattle.std.specs.Prelude.{◌≡◌, ◌≤◌, ◌<◌, ◌+◌, ◌-◌, ◌*◌, ◌/◌, ◌^◌, map, IfOk};
+ghost use Rattle.std.specs.Prelude.{◌≡◌, ◌≤◌, ◌<◌, ◌+◌, ◌-◌, ◌*◌, ◌/◌, ◌^◌, map, All, IfOk};
 ghost use Rattle.deck_lines.specs.Deck.{body_of};
 ghost use Rattle.deck_check.specs.Economy as spec;
 ghost use Rattle.deck_check.specs.Readings as says;
 ghost use Rattle.deck_check.specs.Readings.{first};
 ghost use Rattle.deck_check.specs.TypedDeck.{IsTyped};
+ghost use Rattle.cost_terms.specs.CostData.{IsEconomy};
 ghost use Rattle.year_system.specs.System.{IsLoad};
 
 use crate::parts::{load_of, weights_of};
 use crate::plants::{GROUPS, PLANTS, THERMAL, full, greatest_units, projects, units_in};
 use crate::readings::{is_there, number, periods, step, version, years};
 use convolution::Curve;
-use cost_terms::{CostData, GroupCost, PlantCost, ProjectCost, Rates, ShortagePrice, ThermalCost};
+use cost_terms::{
+    CostData, Economy, GroupCost, PlantCost, ProjectCost, Rates, ShortagePrice, ThermalCost,
+};
 use deck_lines::{Deck, Head};
 use load_curves::fill_curve;
 use plant_data::{Listed, Load};
@@ -55,7 +58,8 @@ fn demand(alloc: Global, deck: &Deck, t: u64) -> Result<u64, OutOfMemory>
 #[tactic(auto, using(crate::proofs::Firsts::first_none, crate::proofs::Firsts::map_more))]
 fn demands(alloc: Global, deck: &Deck) -> Result<Listed<u64>, OutOfMemory>
     requires { IsTyped deck.now }
-    ensures { IfOk result (λ ds. ds ≡ map (spec.demand (body_of deck.now)) (first (says.years (body_of deck.now)))) }
+    ensures value { IfOk result (λ ds. ds ≡ map (spec.demand (body_of deck.now)) (first (says.years (body_of deck.now)))) }
+    ensures small { IfOk result (λ ds. All (λ mwh. mwh < 2 ^ 32) ds) }
 {
     let mut demands = Vec::new(alloc);
     for t in 0..years(deck) {
@@ -182,10 +186,11 @@ fn shortage(deck: &Deck) -> ShortagePrice
     }
 }
 
-/// The data of the costs.
-pub fn costs_of(alloc: Global, deck: &Deck) -> Result<CostData, OutOfMemory>
+/// The data of the costs, with a demand below 2^32 MWh in each year.
+fn costs_of(alloc: Global, deck: &Deck) -> Result<CostData, OutOfMemory>
     requires { IsTyped deck.now }
-    ensures { IfOk result (λ costs. costs ≡ spec.costs (body_of deck.now)) }
+    ensures value { IfOk result (λ costs. costs ≡ spec.costs (body_of deck.now)) }
+    ensures small { IfOk result (λ costs. All (λ mwh. mwh < 2 ^ 32) costs.demand) }
 {
     Ok(CostData {
         years: years(deck),
@@ -199,4 +204,13 @@ pub fn costs_of(alloc: Global, deck: &Deck) -> Result<CostData, OutOfMemory>
         thermal: thermal_costs(alloc, deck)?,
         groups: group_costs(alloc, deck)?,
     })
+}
+
+/// The economy of the deck's years.
+pub fn economy_of(alloc: Global, deck: &Deck) -> Result<Economy, OutOfMemory>
+    requires { IsTyped deck.now }
+    ensures value { IfOk result (λ economy. economy ≡ spec.costs (body_of deck.now)) }
+    ensures is_economy { IfOk result (λ economy. IsEconomy economy) }
+{
+    Ok(Economy::new(costs_of(alloc, deck)?))
 }

@@ -22,8 +22,11 @@ mod rows;
 mod search;
 mod spans;
 mod table;
+#[cfg(test)]
+mod tests;
 mod typed;
 
 pub use fault::{CheckError, DeckFault};
 pub use names::{Name, PlantId};
+pub use search::{faults_are_met, faults_are_single};
 pub use typed::{TypedDeck, check};

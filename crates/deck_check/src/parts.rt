@@ -5,18 +5,20 @@ ghost use Rattle.deck_lines.specs.Deck.{body_of};
 ghost use Rattle.deck_check.specs.Readings as spec;
 ghost use Rattle.deck_check.specs.Readings.{first};
 ghost use Rattle.deck_check.specs.TypedDeck.{IsTyped};
+ghost use Rattle.year_system.specs.System.{IsSystem};
 
 use crate::plants::{
     GROUPS, PLANTS, THERMAL, fuel, full, greatest_units, least, plant_number, projects, units_in,
 };
-use crate::readings::{is_there, number, number_at, numbers, periods, weights};
+use crate::readings::{is_there, number, number_at, numbers, periods, step, weights, years};
 use deck_lines::{Deck, Head};
 use plant_data::{Group, Listed, Load, Plant, Point, Rule, Shape, Water};
 use std::alloc::Global;
 use wasp_fixed::OutOfMemory;
+use year_system::YearSystem;
 
 /// The rule of loading.
-pub fn rule_of(deck: &Deck) -> Rule
+fn rule_of(deck: &Deck) -> Rule
     ensures { result ≡ spec.rule (body_of deck.now) }
 {
     match deck.get(&Head::Rule) {
@@ -70,7 +72,7 @@ pub fn load_of(alloc: Global, deck: &Deck, t: u64, i: usize) -> Result<Load, Out
 
 /// The load of each period of a year.
 #[tactic(auto, using(crate::proofs::Firsts::from_0_more))]
-pub fn loads_of(alloc: Global, deck: &Deck, t: u64) -> Result<Listed<Load>, OutOfMemory>
+fn loads_of(alloc: Global, deck: &Deck, t: u64) -> Result<Listed<Load>, OutOfMemory>
     requires typed { IsTyped deck.now }
     requires low { 1 ≤ t }
     requires high { t ≤ spec.years (body_of deck.now) }
@@ -105,7 +107,7 @@ fn plant_of(deck: &Deck, a: u64, units: u64) -> Plant
 
 /// The existing plants with at least one unit in a year.
 #[tactic(auto, using(crate::proofs::Firsts::first_none, crate::proofs::Firsts::passed_more_yes, crate::proofs::Firsts::passed_more_no))]
-pub fn existing_of(alloc: Global, deck: &Deck, t: u64) -> Result<Listed<Plant>, OutOfMemory>
+fn existing_of(alloc: Global, deck: &Deck, t: u64) -> Result<Listed<Plant>, OutOfMemory>
     requires { t ≤ 30 }
     ensures { IfOk result (λ ps. ps ≡ spec.existing_in (body_of deck.now) t) }
 {
@@ -121,7 +123,7 @@ pub fn existing_of(alloc: Global, deck: &Deck, t: u64) -> Result<Listed<Plant>, 
 
 /// The thermal candidates at their greatest counts.
 #[tactic(auto, using(crate::proofs::Firsts::first_none, crate::proofs::Firsts::kept_more_yes, crate::proofs::Firsts::kept_more_no))]
-pub fn thermal_of(alloc: Global, deck: &Deck) -> Result<Listed<Plant>, OutOfMemory>
+fn thermal_of(alloc: Global, deck: &Deck) -> Result<Listed<Plant>, OutOfMemory>
     ensures { IfOk result (λ ps. ps ≡ spec.thermal (body_of deck.now)) }
 {
     let mut plants = Vec::new(alloc);
@@ -180,7 +182,7 @@ fn water_of(alloc: Global, deck: &Deck, g: u64) -> Result<Listed<Water>, OutOfMe
 
 /// The hydro groups.
 #[tactic(auto, using(crate::proofs::Firsts::first_none, crate::proofs::Firsts::kept_more_yes, crate::proofs::Firsts::kept_more_no))]
-pub fn groups_of(alloc: Global, deck: &Deck) -> Result<Listed<Group>, OutOfMemory>
+fn groups_of(alloc: Global, deck: &Deck) -> Result<Listed<Group>, OutOfMemory>
     ensures { IfOk result (λ gs. gs ≡ spec.groups (body_of deck.now)) }
 {
     let mut groups = Vec::new(alloc);
@@ -195,4 +197,25 @@ pub fn groups_of(alloc: Global, deck: &Deck) -> Result<Listed<Group>, OutOfMemor
         }
     }
     Ok(Listed::new(groups))
+}
+
+/// The physical system of a year.
+pub fn system_of(alloc: Global, deck: &Deck, t: u64) -> Result<YearSystem, OutOfMemory>
+    requires typed { IsTyped deck.now }
+    requires low { 1 ≤ t }
+    requires high { t ≤ spec.years (body_of deck.now) }
+    ensures value { IfOk result (λ system. system ≡ spec.system (body_of deck.now) t) }
+    ensures is_system { IfOk result (λ system. IsSystem system) }
+{
+    // Its reading tells the proof that there are at most 30 years.
+    let _years = years(deck);
+    Ok(YearSystem::new(
+        rule_of(deck),
+        loads_of(alloc, deck, t)?,
+        weights_of(alloc, deck)?,
+        existing_of(alloc, deck, t)?,
+        thermal_of(alloc, deck)?,
+        groups_of(alloc, deck)?,
+        step(deck),
+    ))
 }

@@ -9,7 +9,9 @@ ghost use Rattle.deck_check.specs.Readings as says;
 
 use crate::candidates::{greatest_at, many_codes, width};
 use crate::plants::{come, full, gone, least, plant_head};
-use crate::readings::{is_there, number, number_at, numbers, periods, step, version, weights, years};
+use crate::readings::{
+    is_there, number, number_at, numbers, periods, step, version, weights, years,
+};
 use crate::table::FaultRow;
 use deck_lines::{Deck, Head};
 

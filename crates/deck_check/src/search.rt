@@ -1,7 +1,7 @@
 //! The least numbers that meet a row, and the first row that is met.
 ghost use Rattle.std.specs.Prelude.{◌≡◌, ◌≤◌, ◌<◌, ◌^◌, MatchOption, slice_get};
 ghost use Rattle.deck_lines.specs.Deck.{body_of};
-ghost use Rattle.deck_check.specs.DeckFault.{HasNoFault, IsFaultOf, table};
+ghost use Rattle.deck_check.specs.DeckFault.{FaultsAreMet, FaultsAreSingle, HasNoFault, IsFaultOf, table};
 ghost use Rattle.deck_check.specs.FaultTable.{IsLeastA, IsLeastB, IsLeastC};
 ghost use Rattle.deck_check.specs.Order.{row_of};
 ghost use Rattle.deck_check.specs.Readings.{Says};
@@ -102,3 +102,13 @@ pub fn first_fault(deck: &Deck) -> Option<DeckFault>
     }
     None
 }
+
+/// A deck has one fault at most.
+pub fn faults_are_single()
+    ensures { FaultsAreSingle }
+{}
+
+/// A deck that has a fault meets a row.
+pub fn faults_are_met()
+    ensures { FaultsAreMet }
+{}

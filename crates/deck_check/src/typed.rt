@@ -4,18 +4,19 @@ ghost use Rattle.deck_lines.specs.Deck.{body_of};
 ghost use Rattle.deck_check.specs.DeckFault.{HasNoFault, IsFaultOf};
 ghost use Rattle.deck_check.specs.Readings as says;
 ghost use Rattle.deck_check.specs.Economy.{costs};
-ghost use Rattle.deck_check.specs.TypedDeck.{IsTunnelOf, IsTyped, limit, margin, name_of, tunnel};
+ghost use Rattle.deck_check.specs.TypedDeck.{IsTyped, limit, margin, name_of, tunnel};
+ghost use Rattle.plant_data.specs.Tunnels.{IsTunnelOf};
 ghost use Rattle.cost_terms.specs.CostData.{IsEconomy, greatest as candidate_counts};
 ghost use Rattle.wasp_fixed.specs.declared.numbers.TheConstants.{ONE};
 ghost use Rattle.year_system.specs.System.{IsSystem, greatest};
 
 use crate::candidates::width;
 use crate::cases::{limit_of, margin_of, tunnel_of};
-use crate::economy::costs_of;
+use crate::economy::economy_of;
 use crate::fault::CheckError;
 use crate::names::{Name, PlantId};
-use crate::parts::{existing_of, groups_of, loads_of, rule_of, thermal_of, weights_of};
-use crate::readings::{cases, step, years};
+use crate::parts::system_of;
+use crate::readings::{cases, years};
 use crate::search::first_fault;
 use cost_terms::Economy;
 use deck_lines::{Deck, Head};
@@ -112,16 +113,7 @@ impl TypedDeck {
         ensures is_system { IfOk result (λ system. IsSystem system) }
         ensures valid { IsTyped self.now }
     {
-        let deck = &self.deck;
-        Ok(YearSystem::new(
-            rule_of(deck),
-            loads_of(alloc, deck, year)?,
-            weights_of(alloc, deck)?,
-            existing_of(alloc, deck, year)?,
-            thermal_of(alloc, deck)?,
-            groups_of(alloc, deck)?,
-            step(deck),
-        ))
+        system_of(alloc, &self.deck, year)
     }
 
     /// The data of the costs of the years.
@@ -131,7 +123,7 @@ impl TypedDeck {
         ensures is_economy { IfOk result (λ economy. IsEconomy economy) }
         ensures valid { IsTyped self.now }
     {
-        Ok(Economy::new(costs_of(alloc, &self.deck)?))
+        economy_of(alloc, &self.deck)
     }
 
     /// The tunnel of a case in a year: that of the greatest year up to it which has one. Its least counts

@@ -11,6 +11,7 @@ loop-g-init c = (rw first_none (sym (append-nil (take c.args.from c.args.room.no
 
 pub loop-g-preserved : goal.loop-g-preserved
 loop-g-preserved c =
-    elim c.if-is_there.branch
-    [ then-is_there w ↦ (rw (w.room-is, w.at-is) (grind (arith, common_steps, kept_more_yes)), rw w.at-is (omega arith))
-    | else-is_there w ↦ (rw (w.room-is, w.at-is) (grind (arith, common_steps, kept_more_no)), rw w.at-is (omega arith)) ]
+    elim c.if-is_there.branch [
+      | then-is_there w ↦ (rw (w.room-is, w.at-is) (grind (arith, common_steps, kept_more_yes)), rw w.at-is (omega arith))
+      | else-is_there w ↦ (rw (w.room-is, w.at-is) (grind (arith, common_steps, kept_more_no)), rw w.at-is (omega arith))
+    ]

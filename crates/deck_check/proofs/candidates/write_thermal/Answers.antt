@@ -6,6 +6,7 @@ use Rattle.deck_check.proofs.candidates.write_thermal.Goals.{then-is_there, else
 
 pub loop-k-preserved : goal.loop-k-preserved
 loop-k-preserved c =
-    elim c.if-is_there.branch
-    [ then-is_there w ↦ (rw (w.room-is, w.at-is) (grind (arith, common_steps, kept_more_yes)), rw w.at-is (omega arith))
-    | else-is_there w ↦ (rw (w.room-is, w.at-is) (grind (arith, common_steps, kept_more_no)), rw w.at-is (omega arith)) ]
+    elim c.if-is_there.branch [
+      | then-is_there w ↦ (rw (w.room-is, w.at-is) (grind (arith, common_steps, kept_more_yes)), rw w.at-is (omega arith))
+      | else-is_there w ↦ (rw (w.room-is, w.at-is) (grind (arith, common_steps, kept_more_no)), rw w.at-is (omega arith))
+    ]
