@@ -76,7 +76,7 @@ fn write_bytes(text: &[u8], bytes: &mut [u8])
 
 impl Name {
     /// The name with these bytes.
-    pub(crate) fn new(text: &[u8]) -> Name
+    pub fn new(text: &[u8]) -> Name
         requires { IsTrue (is_name text.now) }
         ensures { result ≡ text.now }
     {
