@@ -100,10 +100,10 @@ case_text c d =
 
 -- ---- what is reported of a case
 
--- with a plan one year for each of its configurations, and else none
-abbrev pub AreYearsOf : Outcome → List PlanYear → Type 0
-AreYearsOf (Plan configs total) years = map (λ y. y.config) years ≡ configs
-AreYearsOf (Infeasible t) years = years ≡ []
+-- the configurations of the plan, and none where there is no plan
+abbrev pub plan_of : Outcome → List (List ℕ)
+plan_of (Plan configs total) = configs
+plan_of (Infeasible t) = []
 
 -- the tunnel and the greatest counts are of the candidates of the configuration
 pub record HasWidths (most : List ℕ) (y : PlanYear) : Type 0 where
@@ -114,5 +114,5 @@ pub record HasWidths (most : List ℕ) (y : PlanYear) : Type 0 where
 pub record IsCaseReport (d : CaseReport) : Type 0 where
   pub conditions : d.conditions ≤ 5
   pub solution : IsSolution d.table d.solved
-  pub years : AreYearsOf d.solved.outcome d.years
+  pub years : map (λ y. y.config) d.years ≡ plan_of d.solved.outcome
   pub widths : All (HasWidths d.greatest) d.years

@@ -16,6 +16,8 @@ mod data;
 mod numbers;
 mod refusals;
 mod script;
+#[cfg(test)]
+mod tests;
 mod year;
 
 pub use case::write_case;
