@@ -12,7 +12,7 @@ pub enum Refusal {
     Deck(DeckFault),
     /// The tunnel of a case in a year holds more than 1,000,000 configurations: `number`.
     Wide { case: u64, year: u64, number: u64 },
-    /// More than 500 configurations of a case in a year keep the margins: at least `number`.
+    /// More than 500 configurations of a case in a year keep the margins: `number`.
     Many { case: u64, year: u64, number: u64 },
 }
 
