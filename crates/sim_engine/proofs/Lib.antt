@@ -1,0 +1,8 @@
+pub mod StackSteps
+pub mod BlockParts
+pub mod BlockSteps
+pub mod CostSteps
+pub mod WaterSteps
+pub mod Fleets
+pub mod PieceSteps
+pub mod RowSteps
