@@ -1,0 +1,14 @@
+pub mod Parts
+pub mod Homes
+pub mod Lists
+pub mod Keeps
+pub mod PathSeen
+pub mod Machines
+pub mod Begins
+pub mod Sets
+pub mod Schedules
+pub mod Pigeons
+pub mod Laying
+pub mod Lasting
+pub mod Happening
+pub mod WorkedRows
