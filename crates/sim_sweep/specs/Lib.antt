@@ -1,0 +1,4 @@
+pub mod Cases
+pub mod Demands
+pub mod Kept
+pub mod Told
