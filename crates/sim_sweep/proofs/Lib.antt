@@ -1,0 +1,5 @@
+mod CaseSteps
+mod CodeLaws
+mod DemandSteps
+mod FillSteps
+mod PlaceSteps

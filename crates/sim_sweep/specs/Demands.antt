@@ -33,7 +33,7 @@ is_demanded demands code = list_any (λ d. d.code == code) demands
 -- of the demands of each code the first
 abbrev pub first_demands : List Demand → List Demand
 first_demands [] = []
-first_demands (d ∷ ds) = d ∷ filter (λ e. not (e.code == d.code)) (first_demands ds)
+first_demands (d ∷ ds) = d ∷ filter (λ e. not (d.code == e.code)) (first_demands ds)
 
 -- of these the ones whose code is not kept
 abbrev pub new_demands : List KeptRow → List Demand → List Demand
