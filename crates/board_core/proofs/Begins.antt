@@ -1,14 +1,14 @@
 -- A store at the start is sound.
-use Rattle.std.proofs.Common.{true≢false, eq-eqb, ne_eqb, ◌≡◌, ◌≢◌, ℕ, zero, suc, ◌+◌, ◌-◌, ◌<◌, ◌≤◌, Bool, true, false, List, [], ◌∷◌, ◌++◌, ◌⊎◌, ◌==◌, if◌then◌else◌, length, set, Option, Some, None, sym, refl, ap, ◌∙◌, subst, inl, inr, ⊎_elim, arith}
-use Rattle.std.proofs.lemmas.Bool.{cases_lt, cases_eq}
+use Rattle.std.proofs.Common.{true≢false, ◌≡◌, ◌≢◌, ℕ, zero, suc, ◌<◌, List, [], ◌∷◌, ◌++◌, sym, refl, ap, ◌∙◌, subst, inl, ⊎_elim, arith}
+use Rattle.std.proofs.lemmas.Bool.{cases_eq}
 use mathlib.Core.Option.{some, some-injective, some-ne-none}
 use lib.ListN.{get_elem?}
 use Rattle.board_core.specs.declared.actor.Actor.{Actor}
-use Rattle.board_core.specs.Lists.{IsIn, times, total}
-use Rattle.board_core.specs.Sound.{Terms, Cells, IsSound, holding, waiting, fresh, Reaches}
+use Rattle.board_core.specs.Lists.{IsIn, times}
+use Rattle.board_core.specs.Sound.{Terms, Cells, IsSound, waiting, fresh, Reaches}
 use Rattle.board_core.specs.Events.{put, newcomer, Laid}
-use Rattle.board_core.proofs.Parts.{Fits, Parts, whole}
-use Rattle.board_core.proofs.Lists.{is_in-left, is_in-right, is_in-append, times-append, times-none, times-some, times-in, same_or_not}
+use Rattle.board_core.proofs.Parts.{Fits, whole}
+use Rattle.board_core.proofs.Lists.{is_in-left, is_in-right, is_in-append, times-some, times-in, same_or_not}
 use Rattle.board_core.proofs.Keeps.{each_put, put_here, put_else, reaches_map, fresh_cases}
 
 abbrev pub from : Terms → List ℕ → Terms

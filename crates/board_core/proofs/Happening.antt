@@ -1,24 +1,22 @@
 -- Each enabled event of the machine is the event over cells and actors.
-use Rattle.std.proofs.Common.{true≢false, eq-eqb, ne_eqb, ◌≡◌, ◌≢◌, ℕ, ◌+◌, ◌<◌, ◌≤◌, Bool, true, false, not, ◌&&◌, List, [], ◌∷◌, ◌++◌, ◌⊎◌, ◌==◌, if◌then◌else◌, length, set, get_or, Option, Some, None, sym, refl, ap, ◌∙◌, subst, inl, inr, ⊎_elim, arith, Result, Ok, Err, OnOk, OnErr}
-use Rattle.std.specs.Prelude.{slice_index, slice_index_or, slice_set, nat_lt, IfOk}
+use Rattle.std.proofs.Common.{eq-eqb, ne_eqb, ◌≡◌, ◌≢◌, ℕ, ◌<◌, ◌≤◌, Bool, true, false, not, ◌&&◌, List, ◌==◌, if◌then◌else◌, length, sym, refl, ap, ◌∙◌, subst, ⊎_elim, arith, Result, Ok, Err, OnOk}
+use Rattle.std.specs.Prelude.{slice_index, slice_set, nat_lt, IfOk}
 use Rattle.std.proofs.lemmas.Bool.{cases_eq, cases_Bool}
 use Rattle.std.proofs.lemmas.List.{set-get_or}
 use borrow.Author.Tests.{ltb-true}
 use mathlib.Core.Option.{some}
 use lib.ListN.{get_elem?}
 use Rattle.board_core.specs.declared.actor.Actor.{Actor}
-use Rattle.board_core.specs.declared.actor.Hand.{Hand}
 use Rattle.board_core.specs.declared.slot.Slot.{Slot}
 use Rattle.board_core.specs.declared.event.Event.{Event}
 use Rattle.board_core.specs.declared.event.Event.TheVariants.{LookCode, PlaceCode, WriteWord, Publish, LookState, ReadWord, Split, Join}
 use Rattle.board_core.specs.declared.event.Answer.{Answer}
-use Rattle.board_core.specs.declared.event.Answer.TheVariants.{NotEnabled, Seen, Moved}
+use Rattle.board_core.specs.declared.event.Answer.TheVariants.{NotEnabled}
 use Rattle.board_core.specs.Lists.{IsIn}
 use Rattle.board_core.specs.Rows.{due_word}
-use Rattle.board_core.specs.Sound.{Cells}
-use Rattle.board_core.specs.Events.{sees, takes, writes, publishes, learns, keeps_share, copy_of, joined, spent, placed, written, published}
-use Rattle.board_core.specs.Machine.{Machine, enabled, moved, told, after, answer, IsSoundMachine, slot_at, actor_at, state_of, machine_terms, machine_cells, looked_at, placed_in, with_actor_at, with_slot_at, is_empty_hand, is_slot_in, has_code, has, has_seen, path_seen, distance, all_written, written_of}
-use Rattle.board_core.specs.Happens.{Moment, moment, Only, Happens, number}
+use Rattle.board_core.specs.Events.{sees, takes, writes, learns, spent, placed}
+use Rattle.board_core.specs.Machine.{Machine, enabled, moved, told, after, answer, IsSoundMachine, slot_at, actor_at, state_of, machine_terms, machine_cells, placed_in, with_actor_at, with_slot_at, is_empty_hand, is_slot_in, has_code, has, has_seen, path_seen, distance, all_written, written_of}
+use Rattle.board_core.specs.Happens.{moment, Only, Happens, number}
 use Rattle.board_core.proofs.Machines.{and_left, and_right, slot_in, hand_lives, share_lives, living_at, elem_or_spent, is_in_of, free_hand, code_of, path_reaches, cells_placed, cells_written, cells_published, written_all, written_is, seen_of, other_of}
 
 -- the actor as before

@@ -1,5 +1,5 @@
 -- Each event keeps a store sound.
-use Rattle.std.proofs.Common.{true≢false, eq-eqb, ne_eqb, ◌≡◌, ◌≢◌, ℕ, zero, suc, ◌+◌, ◌-◌, ◌<◌, ◌≤◌, Bool, true, false, List, [], ◌∷◌, ◌++◌, ◌⊎◌, ◌==◌, if◌then◌else◌, length, set, Option, Some, None, sym, refl, ap, ◌∙◌, subst, inl, inr, ⊎_elim, arith}
+use Rattle.std.proofs.Common.{true≢false, eq-eqb, ne_eqb, ◌≡◌, ◌≢◌, ℕ, zero, suc, ◌<◌, ◌≤◌, Bool, true, false, List, [], ◌∷◌, ◌++◌, ◌⊎◌, ◌==◌, if◌then◌else◌, set, Option, Some, None, sym, refl, ap, ◌∙◌, subst, inl, inr, ⊎_elim, arith}
 use Rattle.std.proofs.lemmas.Bool.{cases_lt, cases_eq, cases_Bool}
 use mathlib.Core.Option.{some, some-injective, some-ne-none}
 use lib.ListN.{get_elem?}
@@ -8,7 +8,7 @@ use Rattle.board_core.specs.declared.actor.Hand.{Hand}
 use Rattle.board_core.specs.Lists.{IsIn, times, total}
 use Rattle.board_core.specs.Sound.{Terms, Cells, HandIsDue, IsSound, Saw, holding, waiting, fresh, spot, Reaches}
 use Rattle.board_core.specs.Events.{put, sees, takes, writes, publishes, learns, keeps_share, copy_of, joined, spent, placed, written, published, SawOther}
-use Rattle.board_core.proofs.Parts.{Fits, Parts, fits_of, whole}
+use Rattle.board_core.proofs.Parts.{Fits, fits_of, whole}
 use Rattle.board_core.proofs.Lists.{is_in-left, is_in-right, is_in-append, total-set, total-same, total-append, term_le, terms_le, at_set, at_snoc, each_set, times-append, times-none, times-some, times-in, same_or_not}
 
 -- an actor learns, and nothing else changes

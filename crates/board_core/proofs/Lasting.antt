@@ -1,6 +1,6 @@
 -- What stands for good over runs of events.
-use Rattle.std.proofs.Common.{true≢false, eq-eqb, ne_eqb, ◌≡◌, ◌≢◌, ℕ, zero, suc, ◌+◌, ◌<◌, ◌≤◌, Bool, true, false, not, ◌&&◌, List, [], ◌∷◌, ◌++◌, ◌⊎◌, ◌==◌, if◌then◌else◌, length, take, set, get_or, Option, Some, None, sym, refl, ap, ◌∙◌, subst, inl, inr, ⊎_elim, arith, Result, Ok, Err, OnOk, OnErr}
-use Rattle.std.specs.Prelude.{slice_index, slice_index_or, slice_set, nat_lt}
+use Rattle.std.proofs.Common.{eq-eqb, ne_eqb, ◌≡◌, ◌≢◌, ℕ, ◌<◌, Bool, true, false, not, ◌&&◌, List, [], ◌∷◌, ◌++◌, ◌==◌, if◌then◌else◌, length, set, None, sym, refl, ap, ◌∙◌, subst, ⊎_elim, arith, Result, Ok, Err, OnOk, OnErr}
+use Rattle.std.specs.Prelude.{slice_index, slice_set, nat_lt}
 use Rattle.std.proofs.lemmas.Bool.{cases_eq, cases_Bool}
 use borrow.Author.Tests.{ltb-true}
 use mathlib.Core.Option.{some}
@@ -9,8 +9,7 @@ use Rattle.board_core.specs.declared.actor.Actor.{Actor}
 use Rattle.board_core.specs.declared.slot.Slot.{Slot}
 use Rattle.board_core.specs.declared.event.Event.{Event}
 use Rattle.board_core.specs.declared.event.Event.TheVariants.{LookCode, PlaceCode, WriteWord, Publish, LookState, ReadWord, Split, Join}
-use Rattle.board_core.specs.declared.event.Answer.{Answer}
-use Rattle.board_core.specs.declared.event.Answer.TheVariants.{NotEnabled, Seen, Moved}
+use Rattle.board_core.specs.declared.event.Answer.TheVariants.{NotEnabled, Seen}
 use Rattle.board_core.specs.declared.row.KeptRow.{KeptRow}
 use Rattle.board_core.specs.Lists.{IsIn}
 use Rattle.board_core.specs.Rows.{due_word}

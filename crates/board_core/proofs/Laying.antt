@@ -1,13 +1,12 @@
 -- The kept rows are placed one by one.
-use Rattle.std.proofs.Common.{eq-eqb, ne_eqb, ◌≡◌, ◌≢◌, true, false, replicate, ℕ, zero, suc, ◌+◌, ◌%◌, ◌^◌, ◌<◌, ◌≤◌, Bool, List, [], ◌∷◌, ◌++◌, ◌⊎◌, ◌==◌, if◌then◌else◌, length, map, take, drop, set, get_or, sym, refl, ap, ◌∙◌, subst, inl, inr, ⊎_elim, arith}
-use Rattle.std.specs.Prelude.{slice_index, slice_index_or, slice_set}
-use Rattle.std.proofs.lemmas.Bool.{cases_eq, cases_lt}
+use Rattle.std.proofs.Common.{eq-eqb, ne_eqb, ◌≡◌, ◌≢◌, true, false, replicate, ℕ, zero, suc, ◌+◌, ◌%◌, ◌^◌, ◌<◌, ◌≤◌, Bool, List, [], ◌∷◌, ◌++◌, if◌then◌else◌, length, take, drop, get_or, sym, refl, ap, ◌∙◌, subst, inl, inr, ⊎_elim, arith}
+use Rattle.std.specs.Prelude.{slice_index, slice_set}
+use Rattle.std.proofs.lemmas.Bool.{cases_eq}
 use Rattle.std.proofs.lemmas.List.{length-map, map-append, take_more, length-replicate, length-set, get_or-set_same, get_or-set_other, drop_all, take_all, append-nil}
 use Rattle.board_core.specs.declared.slot.Slot.{Slot}
-use Rattle.board_core.specs.declared.row.Words.{Words}
 use Rattle.board_core.specs.declared.row.KeptRow.{KeptRow}
 use Rattle.board_core.specs.Lists.{IsIn, times}
-use Rattle.board_core.specs.Sound.{Terms, Cells, IsSound, Reaches}
+use Rattle.board_core.specs.Sound.{IsSound}
 use Rattle.board_core.specs.Rows.{terms, codes_of, due_word, words_of, home_slot}
 use Rattle.board_core.specs.Events.{put, newcomer, Laid}
 use Rattle.board_core.specs.Machine.{Machine, IsShaped, IsSoundMachine, slot_of, free_slot, cells_in, state_of}

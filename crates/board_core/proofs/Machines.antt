@@ -1,13 +1,12 @@
 -- Each event keeps the machine sound.
-use Rattle.std.proofs.Common.{true≢false, eq-eqb, ne_eqb, ◌≡◌, ◌≢◌, ℕ, zero, suc, ◌+◌, ◌-◌, ◌*◌, ◌/◌, ◌%◌, ◌^◌, ◌<◌, ◌≤◌, Bool, true, false, not, ◌&&◌, ◌||◌, List, [], ◌∷◌, ◌++◌, ◌⊎◌, ◌==◌, if◌then◌else◌, length, set, map, get_or, Option, Some, None, sym, refl, ap, ◌∙◌, subst, inl, inr, ⊎_elim, arith}
+use Rattle.std.proofs.Common.{true≢false, eq-eqb, ne_eqb, ◌≡◌, ◌≢◌, ℕ, zero, suc, ◌+◌, ◌-◌, ◌%◌, ◌^◌, ◌<◌, ◌≤◌, Bool, true, false, not, ◌&&◌, ◌||◌, List, [], ◌∷◌, ◌++◌, ◌⊎◌, ◌==◌, if◌then◌else◌, length, set, get_or, Option, Some, None, sym, refl, ap, ◌∙◌, subst, inl, inr, ⊎_elim, arith}
 use Rattle.std.specs.Prelude.{slice_index, slice_index_or, slice_set, nat_lt}
-use Rattle.std.specs.List.{list_any}
 use Rattle.std.proofs.lemmas.Bool.{cases_lt, cases_eq, cases_Bool}
 use Rattle.std.proofs.lemmas.Bool.Decides.{nat_tests}
 use Rattle.std.proofs.lemmas.List.{length-set, get_or-set_same, get_or-set_other}
 use Rattle.std.proofs.Math.Nat.{add-mod_right, mod-eq_of_lt}
 use borrow.Author.Tests.{ltb-true}
-use mathlib.Core.Option.{some, none}
+use mathlib.Core.Option.{some}
 use lib.ListN.{get_elem?}
 use Rattle.board_core.specs.declared.actor.Actor.{Actor}
 use Rattle.board_core.specs.declared.actor.Hand.{Hand}
@@ -15,12 +14,12 @@ use Rattle.board_core.specs.declared.slot.Slot.{Slot}
 use Rattle.board_core.specs.declared.row.KeptRow.{KeptRow}
 use Rattle.board_core.specs.declared.event.Event.{Event}
 use Rattle.board_core.specs.declared.event.Event.TheVariants.{LookCode, PlaceCode, WriteWord, Publish, LookState, ReadWord, Split, Join}
-use Rattle.board_core.specs.Lists.{IsIn, times, total}
-use Rattle.board_core.specs.Sound.{Terms, Cells, IsSound, Saw, Reaches, spot}
+use Rattle.board_core.specs.Lists.{IsIn}
+use Rattle.board_core.specs.Sound.{Terms, Cells, IsSound, Reaches}
 use Rattle.board_core.specs.Events.{put, sees, takes, spent, placed, SawOther, keeps_share, copy_of, joined, writes, publishes, learns, written, published}
-use Rattle.board_core.specs.Rows.{terms, codes_of, home_slot, due_word}
-use Rattle.board_core.specs.Machine.{Machine, slot_of, cells_in, run, free_slot, slot_at, actor_at, state_of, machine_cells, machine_terms, has_seen_other, path_seen, distance, has_code, has, has_seen, is_empty_hand, is_slot_in, all_written, written_of, may_look, may_place, with_actor_at, with_slot_at, looked_at, placed_in, after, IsShaped, IsSoundMachine}
-use Rattle.board_core.proofs.Keeps.{look_code, place_free, each_put, put_here, put_else, split, join, write_word, publish, look_state, read_word}
+use Rattle.board_core.specs.Rows.{codes_of, home_slot, due_word}
+use Rattle.board_core.specs.Machine.{Machine, run, free_slot, slot_at, actor_at, state_of, machine_cells, machine_terms, has_seen_other, path_seen, distance, has_code, has, has_seen, is_empty_hand, is_slot_in, all_written, written_of, may_look, may_place, with_actor_at, with_slot_at, looked_at, placed_in, after, IsShaped, IsSoundMachine}
+use Rattle.board_core.proofs.Keeps.{look_code, place_free, each_put, put_here, put_else, split, join, write_word, publish, look_state}
 use Rattle.board_core.proofs.Parts.{fits_of}
 use Rattle.board_core.proofs.Lists.{times-in, terms_le}
 use Rattle.board_core.proofs.Sets.{any_default}

@@ -1,5 +1,5 @@
 -- Numbers that are told apart.
-use Rattle.std.proofs.Common.{eq-eqb, ne_eqb, ◌≡◌, ◌≢◌, ℕ, zero, suc, ◌+◌, ◌*◌, ◌/◌, ◌%◌, ◌<◌, ◌≤◌, Bool, List, [], ◌∷◌, ◌⊎◌, ◌==◌, if◌then◌else◌, length, sym, refl, ap, ◌∙◌, subst, inl, inr, ⊎_elim, mul-le-mul_right, suc-mul, div-add-mod', arith}
+use Rattle.std.proofs.Common.{eq-eqb, ne_eqb, ◌≡◌, ◌≢◌, ℕ, zero, suc, ◌+◌, ◌*◌, ◌/◌, ◌%◌, ◌<◌, ◌≤◌, Bool, List, [], ◌∷◌, ◌==◌, if◌then◌else◌, length, sym, refl, ap, ◌∙◌, subst, inl, inr, ⊎_elim, mul-le-mul_right, suc-mul, div-add-mod', arith}
 use Rattle.std.proofs.lemmas.Bool.{cases_lt, cases_eq}
 use Rattle.board_core.specs.Lists.{IsIn}
 
@@ -57,4 +57,3 @@ spot_once h n i j a b e = ⊎_elim
     (λ (lt : i < j). let same = one_turn (h + i) (h + j) n (omega arith) (omega arith) e in omega arith)
     (λ (ge : j ≤ i). let same = one_turn (h + j) (h + i) n (omega arith) (omega arith) (sym e) in omega arith)
     (cases_lt i j)
-

@@ -19,7 +19,12 @@ pub(crate) fn see(actor: &mut Actor, slot: u64, code: u64) -> Result<(), OutOfMe
 }
 
 /// The actor takes a slot for a code.
-pub(crate) fn take(alloc: Global, actor: &mut Actor, slot: u64, code: u64) -> Result<(), OutOfMemory>
+pub(crate) fn take(
+    alloc: Global,
+    actor: &mut Actor,
+    slot: u64,
+    code: u64,
+) -> Result<(), OutOfMemory>
     ensures ok { OnOk result (actor.new ≡ takes actor.old slot code) }
     ensures err { OnErr result (actor.new ≡ actor.old) }
 {
@@ -150,7 +155,12 @@ pub(crate) fn fits(a: usize, b: usize) -> bool
 }
 
 /// The actor at k takes in the one at j.
-pub(crate) fn join_in(alloc: Global, actors: &mut [Actor], k: usize, j: usize) -> Result<(), OutOfMemory>
+pub(crate) fn join_in(
+    alloc: Global,
+    actors: &mut [Actor],
+    k: usize,
+    j: usize,
+) -> Result<(), OutOfMemory>
     requires places { (k < length actors.old) × (j < length actors.old) × (k ≢ j) }
     requires shares { (slice_index_or actors.old k spent).share + (slice_index_or actors.old j spent).share < 2 ^ 64 }
     ensures ok { OnOk result (actors.new ≡ slice_set (slice_set actors.old k (joined (slice_index_or actors.old k spent) (slice_index_or actors.old j spent))) j spent) }

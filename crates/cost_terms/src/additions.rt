@@ -52,7 +52,7 @@ pub struct Totals {
     pub salvage: u64,
 }
 
-/// The salvage of an item with these investments, which outlives the horizon by `rest` of its years.
+/// The salvage of an item, 0 where its life ends by the horizon.
 #[tactic(auto, using(crate::proofs::Amounts::worth_most, crate::proofs::Amounts::part_le))]
 fn salvage_of(item: &Item, horizon: &Horizon) -> u64
     requires item { IsItem item.now }

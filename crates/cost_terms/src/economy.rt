@@ -10,10 +10,11 @@ use plant_data::Config;
 use std::marker::Model;
 
 /// The data of the costs of a case's years, which contracts see as their record.
+///
+/// The discount factors of its rates are made once, by `new`, and no cost makes them again.
 #[derive(Debug, Drop)]
 pub struct Economy {
     costs: CostData,
-    /// Made once, since each cost of an addition or a row takes some.
     factors: Factors,
 }
 

@@ -88,7 +88,7 @@ pub struct CostData {
     pub version: u64,
     /// The rates of discount, each 0 to 10,000.
     pub rates: Rates,
-    /// The rates by which fuel becomes dearer, each 0 to 1,000; 0 in version 1.
+    /// The rates by which fuel becomes dearer, each 0 to 1,000.
     pub escalation: Rates,
     /// The price of energy not served.
     pub shortage: ShortagePrice,

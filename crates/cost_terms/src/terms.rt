@@ -153,8 +153,11 @@ fn run_terms(costs: &CostData, factors: &Factors, year: u64, config: &Config, ro
     }
 }
 
-/// The terms of the additions of a year, counted from 1, from the counts before it to those after. It takes
-/// no memory and never refuses.
+/// The terms of the additions of a year, counted from 1, from the counts before it to those after.
+///
+/// After the objective of DYNPRO in the IAEA's Computer Manual Series No. 16; salvage by straight line and the
+/// return of the fuel inventory at the horizon are this program's own. Each term has one floor, salvage one
+/// for each candidate and project. It takes no memory and never refuses.
 pub fn build_cost(economy: &Economy, year: u64, before: &Config, after: &Config) -> Built
     requires first { 1 ≤ year }
     requires last { year ≤ economy.now.years }
@@ -170,8 +173,11 @@ pub fn build_cost(economy: &Economy, year: u64, before: &Config, after: &Config)
     build_terms(economy.costs(), economy.factors(), year, before, after)
 }
 
-/// The terms of running a configuration for a year, counted from 1, with its row. It takes no memory and
-/// never refuses.
+/// The terms of running a configuration for a year, counted from 1, with its row.
+///
+/// After the objective of DYNPRO in the IAEA's Computer Manual Series No. 16; all is paid in the middle of the
+/// year. Escalation and the dearer shortages are this program's own. Each term has one floor over the factors
+/// of the year. It takes no memory and never refuses.
 pub fn run_cost(economy: &Economy, year: u64, config: &Config, row: &Row) -> Ran
     requires first { 1 ≤ year }
     requires last { year ≤ economy.now.years }

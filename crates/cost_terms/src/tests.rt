@@ -179,61 +179,62 @@ fn fuel_escalates_from_the_second_year_on(rt: HostRuntime) -> Result<(), Fail> {
     Ok(())
 }
 
-/// Two currencies, an existing plant that loses a unit, two candidates, of which one wears out, and a
-/// hydro group of three projects; a demand of 0 in the third year.
-fn mixed(alloc: Global) -> Result<Economy, AllocError>
-    ensures greatest { IfOk result (λ e. greatest e ≡ 4 ∷ 4 ∷ 2 ∷ []) }
-    ensures years { IfOk result (λ e. e.years ≡ 3) }
-    ensures valid { IfOk result IsEconomy }
+/// An existing plant that loses one of its two units.
+fn standing(alloc: Global) -> Result<Listed<PlantCost>, AllocError>
+    ensures { IfOk result (λ ps. ps ≡ record { full = 120; fixed = 150; units = 2 ∷ 2 ∷ 1 ∷ [] } ∷ []) }
 {
-    let demand = vec![in alloc; 900_000u64, 1_000_000, 0]?;
-    let weights = vec![in alloc; 6_000u64, 4_000]?;
-    let standing = vec![in alloc; 2u64, 2, 1]?;
+    let units = vec![in alloc; 2u64, 2, 1]?;
     let mut plants = Vec::new(alloc);
     plants.push(PlantCost {
         full: 120,
         fixed: 150,
-        units: Listed::new(standing),
+        units: Listed::new(units),
     })?;
-    let thermal = vec![in alloc;
-        ThermalCost {
-            greatest: 4,
-            full: 60,
-            fixed: 100,
-            capdom: 700,
-            capfor: 900,
-            stock: 30,
-            life: 25,
-        },
-        ThermalCost {
-            greatest: 4,
-            full: 90,
-            fixed: 80,
-            capdom: 0,
-            capfor: 1100,
-            stock: 7,
-            life: 2,
-        },
-    ]?;
+    Ok(Listed::new(plants))
+}
+
+/// A candidate that outlives the horizon.
+const LASTING: ThermalCost = ThermalCost {
+    greatest: 4,
+    full: 60,
+    fixed: 100,
+    capdom: 700,
+    capfor: 900,
+    stock: 30,
+    life: 25,
+};
+
+/// A candidate that wears out in two years.
+const SHORT_LIVED: ThermalCost = ThermalCost {
+    greatest: 4,
+    full: 90,
+    fixed: 80,
+    capdom: 0,
+    capfor: 1100,
+    stock: 7,
+    life: 2,
+};
+
+/// A hydro project.
+fn project(capacity: u64, capdom: u64, capfor: u64, life: u64) -> ProjectCost
+    ensures { result ≡ record { capacity = capacity; capdom = capdom; capfor = capfor; life = life } }
+{
+    ProjectCost {
+        capacity,
+        capdom,
+        capfor,
+        life,
+    }
+}
+
+/// A hydro group with a project that stands and two to be built, of which the second lives for a year.
+fn river(alloc: Global) -> Result<Listed<GroupCost>, AllocError>
+    ensures { IfOk result (λ gs. gs ≡ record { existing = 1; greatest = 2; fixed = 50; projects = record { capacity = 40; capdom = 1000; capfor = 300; life = 50 } ∷ record { capacity = 30; capdom = 1200; capfor = 0; life = 40 } ∷ record { capacity = 20; capdom = 1100; capfor = 500; life = 1 } ∷ [] } ∷ []) }
+{
     let projects = vec![in alloc;
-        ProjectCost {
-            capacity: 40,
-            capdom: 1000,
-            capfor: 300,
-            life: 50,
-        },
-        ProjectCost {
-            capacity: 30,
-            capdom: 1200,
-            capfor: 0,
-            life: 40,
-        },
-        ProjectCost {
-            capacity: 20,
-            capdom: 1100,
-            capfor: 500,
-            life: 1,
-        },
+        project(40, 1000, 300, 50),
+        project(30, 1200, 0, 40),
+        project(20, 1100, 500, 1),
     ]?;
     let mut groups = Vec::new(alloc);
     groups.push(GroupCost {
@@ -242,6 +243,20 @@ fn mixed(alloc: Global) -> Result<Economy, AllocError>
         fixed: 50,
         projects: Listed::new(projects),
     })?;
+    Ok(Listed::new(groups))
+}
+
+/// All of these in two currencies, under two hydro conditions, with no demand in the third year.
+fn mixed(alloc: Global) -> Result<Economy, AllocError>
+    ensures greatest { IfOk result (λ e. greatest e ≡ 4 ∷ 4 ∷ 2 ∷ []) }
+    ensures years { IfOk result (λ e. e.years ≡ 3) }
+    ensures valid { IfOk result IsEconomy }
+{
+    let demand = vec![in alloc; 900_000u64, 1_000_000, 0]?;
+    let weights = vec![in alloc; 6_000u64, 4_000]?;
+    let thermal = vec![in alloc; LASTING, SHORT_LIVED]?;
+    let plants = standing(alloc)?;
+    let groups = river(alloc)?;
     Ok(Economy::new(CostData {
         years: 3,
         version: 2,
@@ -260,9 +275,9 @@ fn mixed(alloc: Global) -> Result<Economy, AllocError>
         },
         weights: Listed::new(weights),
         demand: Listed::new(demand),
-        plants: Listed::new(plants),
+        plants,
         thermal: Listed::new(thermal),
-        groups: Listed::new(groups),
+        groups,
     }))
 }
 

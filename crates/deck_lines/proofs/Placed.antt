@@ -196,7 +196,7 @@ found : (s : Statement) (deck : List Statement) (h : Head) (b : Bool) → same_h
 found s deck h true e stated rest = subst (λ (x : Head). is_statement (record { head = x; body = s.body }) ≡ true) (same_head-true s.head h e) stated
 found s deck h false e stated rest = rest
 
-found_fits : (deck : List Statement) (h : Head) → is_deck deck ≡ true → IfSome (body_of deck h) (λ b. is_statement (record { head = h; body = b }) ≡ true)
+pub found_fits : (deck : List Statement) (h : Head) → is_deck deck ≡ true → IfSome (body_of deck h) (λ b. is_statement (record { head = h; body = b }) ≡ true)
 found_fits [] h whole = tt
 found_fits (s ∷ deck) h whole = let d = deck_parts s deck whole in found s deck h (same_head s.head h) refl d.0 (found_fits deck h d.2)
 

@@ -4,7 +4,7 @@ ghost use Rattle.std.specs.Prelude.{◌≡◌, ◌≤◌, length};
 use std::marker::Model;
 
 /// A name of at most 8 bytes, empty where the statement has none, and numbers.
-#[derive(Debug, Drop)]
+#[derive(Clone, Debug, Drop)]
 pub struct Body {
     name: Vec<u8>,
     numbers: Vec<u64>,

@@ -1,5 +1,5 @@
 //! The deck as edited so far.
-ghost use Rattle.std.specs.Prelude.{◌≡◌, ◌<◌, [], length, Option, IfSome, OnOk, OnErr};
+ghost use Rattle.std.specs.Prelude.{◌≡◌, ◌<◌, [], length, Option, IfSome, IfOk, OnOk, OnErr};
 ghost use Rattle.std.specs.Option.{option_copied};
 ghost use Rattle.deck_lines.specs.declared.statement.Statement.{Statement as Stated};
 ghost use Rattle.deck_lines.specs.Deck as spec;
@@ -15,7 +15,7 @@ use wasp_fixed::OutOfMemory;
 
 /// The statements that stand, each head once. Contracts see the list of the statements, each in its
 /// form, in the order in which their heads were first set.
-#[derive(Debug, Drop)]
+#[derive(Clone, Debug, Drop)]
 pub struct Deck {
     statements: Vec<Statement>,
 }
@@ -86,6 +86,13 @@ impl Deck {
         Deck {
             statements: Vec::new(alloc),
         }
+    }
+
+    /// A deck with the same statements.
+    pub fn copy(&self) -> Result<Deck, OutOfMemory>
+        ensures { IfOk result (λ deck. deck ≡ self.now) }
+    {
+        Ok(self.clone()?)
     }
 
     /// Puts the statement in the place of that with its head, or adds it. Refused, it leaves the deck as

@@ -1,7 +1,7 @@
 -- The best plan to an entry, and the chosen plan.
-use Rattle.std.proofs.Common.{◌≡◌, ℕ, zero, suc, ◌+◌, ◌-◌, ◌<◌, ◌≤◌, List, [], ◌∷◌, ◌++◌, length, reverse, get_or, Contains, Option, Some, None, sym, ap, ◌∙◌, arith, refl, subst, ⊎_elim, inl, inr, ◌≢◌, ◌⊎◌}
+use Rattle.std.proofs.Common.{◌≡◌, ℕ, zero, suc, ◌+◌, ◌-◌, ◌<◌, ◌≤◌, List, [], ◌∷◌, ◌++◌, length, reverse, get_or, Contains, Option, Some, None, sym, ap, ◌∙◌, arith, refl, subst, ⊎_elim, inl, inr, ◌≢◌}
 use Rattle.std.proofs.lemmas.Bool.{cases_eq, cases_lt}
-use Rattle.std.proofs.lemmas.List.{get_or_default, get_or_past, length-reverse, reverse-reverse}
+use Rattle.std.proofs.lemmas.List.{get_or_past, length-reverse, reverse-reverse}
 use Rattle.std.proofs.lemmas.Option.{none-some}
 use Rattle.std.specs.Cmp.Lexicographic.{slice_cmp}
 use Rattle.std.specs.Option.{unwrap_or}
@@ -12,14 +12,14 @@ use Rattle.cost_terms.specs.Cost.{step_cost}
 use Rattle.cost_terms.specs.Table.{IsTable, Rises, Table, plan_cost}
 use Rattle.cost_terms.specs.declared.entries.Scored.{Scored}
 use Rattle.cost_terms.specs.declared.prices.CostData.{CostData}
-use Rattle.plan_program.specs.Chosen.{HasPlan, IsChosen, IsInfeasible, IsNoWorse, IsPlanOf}
+use Rattle.plan_program.specs.Chosen.{HasPlan, IsInfeasible, IsNoWorse, IsPlanOf}
 use Rattle.plan_program.specs.CostToCome.{AreCostsToCome, IsCostToCome, IsPlanTo, come_at}
-use Rattle.plan_program.specs.Plans.{IsAdmissible, configs, entry_at, layer_at, no_entry}
+use Rattle.plan_program.specs.Plans.{configs, entry_at, layer_at, no_entry}
 use Rattle.plan_program.specs.Steps.{AreWayCosts, HasLead, HasNumber, IsBefore, IsLeastPlace, IsUnreached, LeadsTo}
-use Rattle.plan_program.specs.Ways.{IsBestTo, IsLeastWay, IsWay, IsWayCost, TellsBest, last_config, way_cost}
-use Rattle.plan_program.proofs.Forward.{Numbered, Place, contains_at, place_of, way_cost_some, way_number}
+use Rattle.plan_program.specs.Ways.{IsBestTo, IsLeastWay, IsWay, IsWayCost, TellsBest, way_cost}
+use Rattle.plan_program.proofs.Forward.{place_of, way_cost_some, way_number}
 use Rattle.plan_program.proofs.Orders.{NoWorse, configs_push, less_first, lists_cmp, no_worse, none_none, same_first, worse_no}
-use Rattle.plan_program.proofs.Ways.{WayOf, admissible_none, cost_same, plan_way, reverse_more, way_of, way_plan, way_to}
+use Rattle.plan_program.proofs.Ways.{admissible_none, cost_same, plan_way, reverse_more, way_of, way_plan, way_to}
 
 -- one more year costs its step
 pub one_more : (c : CostData) (k : ℕ) (e d : Scored) (ds : List Scored) → length ds ≡ k → way_cost c (e ∷ d ∷ ds) ≡ way_cost c (d ∷ ds) + step_cost c (k + 1 + 1) d.config e.config e.row
@@ -67,6 +67,7 @@ lead_of t k e come cost ways l = lead l.before l.way l.long l.costs
   where
     equal : (a b s v : ℕ) → a + s ≡ v → b ≤ a → v ≤ b + s → b + s ≡ v
     equal a b s v f g h = omega (arith, f, g, h)
+
     lead : (before : List Scored) → IsWay t (e ∷ before) → length before ≡ k + 1 → way_cost t.economy (e ∷ before) ≡ cost → HasLead t.economy (k + 1 + 1) (layer_at t k) come e cost
     lead [] w long costs = absurd (omega (arith, long))
     lead (d ∷ ds) w long costs =
@@ -151,17 +152,19 @@ better t k e d d' ds gs come i cost c w long p same =
       costs = ap (λ (x : Scored). p.before + step_cost t.economy (k + 1 + 1) x.config e.config e.row) p.is ∙ equal (way_cost t.economy (d' ∷ gs)) p.before s cost whole p.cheap p.least;
     } in
     rw (same_first e.config (configs (d ∷ ds)) (configs (d' ∷ gs))) (⊎_elim
-        (λ below. absurd (c.first p.place below leads))
-        (λ above. ⊎_elim
-            (λ at. here (sym (sym p.is ∙ (ap (λ j. entry_at (layer_at t k) j) at ∙ c.is))) (exact (way_cost t.economy (d' ∷ gs)) p.before s cost whole p.cheap p.least) at)
-            (λ later. less_first d.config d'.config (configs ds) (configs gs) (rises_at (layer_at t k) c.rises i p.place d d' (omega (arith, above, later)) p.within c.is p.is))
-            (cases_eq p.place i))
-        (cases_lt p.place i))
+    (λ below. absurd (c.first p.place below leads))
+    (λ above. ⊎_elim
+    (λ at. here (sym (sym p.is ∙ (ap (λ j. entry_at (layer_at t k) j) at ∙ c.is))) (exact (way_cost t.economy (d' ∷ gs)) p.before s cost whole p.cheap p.least) at)
+    (λ later. less_first d.config d'.config (configs ds) (configs gs) (rises_at (layer_at t k) c.rises i p.place d d' (omega (arith, above, later)) p.within c.is p.is))
+    (cases_eq p.place i))
+    (cases_lt p.place i))
   where
     equal : (a b s v : ℕ) → a + s ≡ v → b ≤ a → v ≤ b + s → b + s ≡ v
     equal a b s v f g h = omega (arith, f, g, h)
+
     exact : (a b s v : ℕ) → a + s ≡ v → b ≤ a → v ≤ b + s → a ≡ b
     exact a b s v f g h = omega (arith, f, g, h)
+
     here : d ≡ d' → way_cost t.economy (d' ∷ gs) ≡ p.before → p.place ≡ i → lists_cmp (configs (d ∷ ds)) (configs (d' ∷ gs)) ≢ Greater
     here one cost' at =
         let way = way_cost_some t k d (get_or come i None) c.leads.before (subst (λ (x : Scored). IsWayCost t k x (get_or come i None)) c.is (c.ways i c.within)) c.leads.has in
@@ -171,7 +174,7 @@ better t k e d d' ds gs come i cost c w long p same =
         let compare : NoWorse t.economy (d ∷ ds) (d ∷ gs) = worse_no t.economy (d ∷ ds) (d ∷ gs) (c.best.best gs there (long ∙ sym c.long)) in
         let costs : way_cost t.economy (d ∷ gs) ≡ p.before = subst (λ (x : Scored). way_cost t.economy (x ∷ gs) ≡ p.before) (sym one) cost' in
         subst (λ (x : Scored). lists_cmp (configs (d ∷ ds)) (configs (x ∷ gs)) ≢ Greater) one
-            (⊎_elim (λ less. absurd (apart _ _ p.before c.leads.before less mine costs both)) (λ tie. tie.1) compare)
+        (⊎_elim (λ less. absurd (apart _ _ p.before c.leads.before less mine costs both)) (λ tie. tie.1) compare)
       where
         apart : (x y u v : ℕ) → x < y → x ≡ v → y ≡ u → u ≡ v → ⊥
         apart x y u v f g h e = omega (arith, f, g, h, e)
@@ -186,11 +189,11 @@ best_more t k e d ds come i cost c = record { way = chosen_way t k e d ds come i
         let mine : way_cost t.economy (e ∷ d ∷ ds) ≡ cost = chosen_cost t k e d ds come i cost c in
         let low : cost ≤ way_cost t.economy (e ∷ d' ∷ gs) = c.least.least (d' ∷ gs) w (omega (arith, long)) in
         ⊎_elim
-            (λ less. inl less)
-            (λ no_less.
-                let same : way_cost t.economy (e ∷ d' ∷ gs) ≡ cost = tie _ _ cost mine low no_less in
-                inr (mine ∙ sym same, better t k e d d' ds gs come i cost c w long' (passed t k e d' gs come cost c.ways c.least w long') same))
-            (cases_lt (way_cost t.economy (e ∷ d ∷ ds)) (way_cost t.economy (e ∷ d' ∷ gs)))
+        (λ less. inl less)
+        (λ no_less.
+        let same : way_cost t.economy (e ∷ d' ∷ gs) ≡ cost = tie _ _ cost mine low no_less in
+        inr (mine ∙ sym same, better t k e d d' ds gs come i cost c w long' (passed t k e d' gs come cost c.ways c.least w long') same))
+        (cases_lt (way_cost t.economy (e ∷ d ∷ ds)) (way_cost t.economy (e ∷ d' ∷ gs)))
       where
         tie : (x y v : ℕ) → x ≡ v → v ≤ y → y ≤ x → y ≡ v
         tie x y v f g h = omega (arith, f, g, h)
@@ -219,26 +222,31 @@ finish_best t k come place total shown f (e' ∷ gs) w long =
     let mine = finish_cost t k come place total shown f in
     let low : total ≤ n.cost = f.least.least p.place n.cost (omega (arith, p.within, f.long)) n.is in
     ⊎_elim
-        (λ less. inl less)
-        (λ no_less.
-            let same : way_cost t.economy (e' ∷ gs) ≡ total = tie _ _ n.cost total mine low n.cheap no_less in
-            let exact : n.cost ≡ total = tight _ _ n.cost total mine low n.cheap no_less in
-            let after : place ≤ p.place = f.least.first p.place (omega (arith, p.within, f.long)) (n.is ∙ ap (λ (x : ℕ). Some x) exact) in
-            inr (mine ∙ sym same, ⊎_elim
-                (λ at.
-                    let one : e ≡ e' = ap (λ j. entry_at (layer_at t k) j) (sym at) ∙ p.is in
-                    let there : IsWay t (e ∷ gs) = subst (λ (x : Scored). IsWay t (x ∷ gs)) (sym one) w in
-                    let compare : NoWorse t.economy (e ∷ f.best.before) (e ∷ gs) = worse_no t.economy (e ∷ f.best.before) (e ∷ gs) (f.best.best.best gs there (long' ∙ sym f.best.long)) in
-                    let costs : way_cost t.economy (e ∷ gs) ≡ total = subst (λ (x : Scored). way_cost t.economy (x ∷ gs) ≡ total) (sym one) same in
-                    subst (λ (x : Scored). lists_cmp (configs (e ∷ f.best.before)) (configs (x ∷ gs)) ≢ Greater) one (⊎_elim (λ below. absurd (apart _ _ total below mine costs)) (λ tied. tied.1) compare))
-                (λ later. less_first e.config e'.config (configs f.best.before) (configs gs) (rises_at (layer_at t k) f.rises place p.place e e' (omega (arith, after, later)) p.within refl p.is))
-                (cases_eq p.place place)))
-        (cases_lt (way_cost t.economy (e ∷ f.best.before)) (way_cost t.economy (e' ∷ gs)))
+    (λ less. inl less)
+    (λ no_less.
+    let same : way_cost t.economy (e' ∷ gs) ≡ total = tie _ _ n.cost total mine low n.cheap no_less in
+    let exact : n.cost ≡ total = tight _ _ n.cost total mine low n.cheap no_less in
+    let after : place ≤ p.place = f.least.first p.place (omega (arith, p.within, f.long)) (n.is ∙ ap (λ (x : ℕ). Some x) exact) in
+    inr (
+      mine ∙ sym same,
+      ⊎_elim
+          (λ at.
+          let one : e ≡ e' = ap (λ j. entry_at (layer_at t k) j) (sym at) ∙ p.is in
+          let there : IsWay t (e ∷ gs) = subst (λ (x : Scored). IsWay t (x ∷ gs)) (sym one) w in
+          let compare : NoWorse t.economy (e ∷ f.best.before) (e ∷ gs) = worse_no t.economy (e ∷ f.best.before) (e ∷ gs) (f.best.best.best gs there (long' ∙ sym f.best.long)) in
+          let costs : way_cost t.economy (e ∷ gs) ≡ total = subst (λ (x : Scored). way_cost t.economy (x ∷ gs) ≡ total) (sym one) same in
+          subst (λ (x : Scored). lists_cmp (configs (e ∷ f.best.before)) (configs (x ∷ gs)) ≢ Greater) one (⊎_elim (λ below. absurd (apart _ _ total below mine costs)) (λ tied. tied.1) compare))
+          (λ later. less_first e.config e'.config (configs f.best.before) (configs gs) (rises_at (layer_at t k) f.rises place p.place e e' (omega (arith, after, later)) p.within refl p.is))
+          (cases_eq p.place place),
+    ))
+    (cases_lt (way_cost t.economy (e ∷ f.best.before)) (way_cost t.economy (e' ∷ gs)))
   where
     tie : (x y n v : ℕ) → x ≡ v → v ≤ n → n ≤ y → y ≤ x → y ≡ v
     tie x y n v f g h e = omega (arith, f, g, h, e)
+
     tight : (x y n v : ℕ) → x ≡ v → v ≤ n → n ≤ y → y ≤ x → n ≡ v
     tight x y n v f g h e = omega (arith, f, g, h, e)
+
     apart : (x y v : ℕ) → x < y → x ≡ v → y ≡ v → ⊥
     apart x y v f g h = omega (arith, f, g, h)
 

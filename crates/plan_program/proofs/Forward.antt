@@ -1,5 +1,5 @@
 -- From what is reached before a year to the costs-to-come of its entries, and to what is reached after it.
-use Rattle.std.proofs.Common.{◌≡◌, ℕ, zero, suc, ◌+◌, ◌-◌, ◌*◌, ◌^◌, ◌<◌, ◌≤◌, List, [], ◌∷◌, ◌++◌, length, get_or, min, Contains, Option, Some, None, sym, ap, ◌∙◌, arith, refl, subst, ⊎_elim}
+use Rattle.std.proofs.Common.{◌≡◌, ℕ, ◌+◌, ◌*◌, ◌^◌, ◌<◌, ◌≤◌, List, [], ◌∷◌, ◌++◌, length, get_or, min, Contains, Option, Some, None, sym, ap, ◌∙◌, arith, refl, subst, ⊎_elim}
 use Rattle.std.proofs.Math.ListN.{get_or-append}
 use Rattle.std.proofs.Math.Seq.{get_or-append_seam}
 use Rattle.std.proofs.lemmas.Bool.{cases_eq, cases_lt}
@@ -13,7 +13,7 @@ use Rattle.cost_terms.specs.Table.{IsEntry, IsTable, Table}
 use Rattle.cost_terms.specs.declared.entries.Scored.{Scored}
 use Rattle.cost_terms.specs.declared.prices.CostData.{CostData}
 use Rattle.plan_program.specs.Plans.{entry_at, layer_at, no_entry}
-use Rattle.plan_program.specs.Steps.{AreNumbered, AreReached, ComesFrom, HasWay, IsAmong, IsLeastFrom, IsMet, AreWayCosts, IsRaised, IsWithWay, StandsFor, built, lesser_of, raised, reached_at, running}
+use Rattle.plan_program.specs.Steps.{AreNumbered, AreReached, IsLeastFrom, IsMet, AreWayCosts, IsRaised, IsWithWay, built, lesser_of, raised, reached_at, running}
 use Rattle.plan_program.specs.Ways.{IsLeastWay, IsWay, IsWayCost, last_config, way_cost}
 use Rattle.plan_program.specs.declared.come.Reached.{Reached}
 
@@ -24,8 +24,9 @@ least_none c year rs config i h = absurd (omega (arith, h))
 pub least_skip : (c : CostData) (year : ℕ) (rs : List Reached) (n : ℕ) (config : List ℕ) (v : Option ℕ) → IsLeastFrom c year rs n config v → (IsAtMost (reached_at rs n).config config → ⊥) → IsLeastFrom c year rs (n + 1) config v
 least_skip c year rs n config None h not = λ i b g. ⊎_elim (λ e. not (subst (λ k. IsAtMost (reached_at rs k).config config) e g)) (λ other. h i (omega (arith, b, other)) g) (cases_eq i n)
 least_skip c year rs n config (Some v) h not = (
-    record { place = h.0.place; within = omega (arith, h.0.within); grows = h.0.grows; costs = h.0.costs },
-    λ i b g. ⊎_elim (λ e. absurd (not (subst (λ k. IsAtMost (reached_at rs k).config config) e g))) (λ other. h.1 i (omega (arith, b, other)) g) (cases_eq i n))
+  record { place = h.0.place; within = omega (arith, h.0.within); grows = h.0.grows; costs = h.0.costs },
+  λ i b g. ⊎_elim (λ e. absurd (not (subst (λ k. IsAtMost (reached_at rs k).config config) e g))) (λ other. h.1 i (omega (arith, b, other)) g) (cases_eq i n),
+)
 
 abbrev through : CostData → ℕ → List Reached → ℕ → List ℕ → ℕ
 through c year rs i config = (reached_at rs i).cost + built c year (reached_at rs i).config config
@@ -33,22 +34,25 @@ through c year rs i config = (reached_at rs i).cost + built c year (reached_at r
 least_here : (c : CostData) (year : ℕ) (rs : List Reached) (n : ℕ) (config : List ℕ) (v w : ℕ) → IsLeastFrom c year rs n config (Some v) → IsAtMost (reached_at rs n).config config → w ≡ through c year rs n config → IsLeastFrom c year rs (n + 1) config (Some (min v w))
 least_here c year rs n config v w h g e =
     ⊎_elim
-        (λ (below : v < w).
-            let m : min v w ≡ v = omega (arith, below) in
-            subst (λ x. IsLeastFrom c year rs (n + 1) config (Some x)) (sym m) (
-                record { place = h.0.place; within = omega (arith, h.0.within); grows = h.0.grows; costs = h.0.costs },
-                λ i b k. ⊎_elim (λ same. rw same (omega (arith, below, e))) (λ other. h.1 i (omega (arith, b, other)) k) (cases_eq i n)))
-        (λ (above : w ≤ v).
-            let m : min v w ≡ w = omega (arith, above) in
-            subst (λ x. IsLeastFrom c year rs (n + 1) config (Some x)) (sym m) (
-                record { place = n; within = omega arith; grows = g; costs = sym e },
-                λ i b k. ⊎_elim (λ same. rw same (omega (arith, e))) (λ other. omega (arith, above, h.1 i (omega (arith, b, other)) k)) (cases_eq i n)))
-        (cases_lt v w)
+    (λ (below : v < w).
+    let m : min v w ≡ v = omega (arith, below) in
+    subst (λ x. IsLeastFrom c year rs (n + 1) config (Some x)) (sym m) (
+      record { place = h.0.place; within = omega (arith, h.0.within); grows = h.0.grows; costs = h.0.costs },
+      λ i b k. ⊎_elim (λ same. rw same (omega (arith, below, e))) (λ other. h.1 i (omega (arith, b, other)) k) (cases_eq i n),
+    ))
+    (λ (above : w ≤ v).
+    let m : min v w ≡ w = omega (arith, above) in
+    subst (λ x. IsLeastFrom c year rs (n + 1) config (Some x)) (sym m) (
+      record { place = n; within = omega arith; grows = g; costs = sym e },
+      λ i b k. ⊎_elim (λ same. rw same (omega (arith, e))) (λ other. omega (arith, above, h.1 i (omega (arith, b, other)) k)) (cases_eq i n),
+    ))
+    (cases_lt v w)
 
 pub least_more : (c : CostData) (year : ℕ) (rs : List Reached) (n : ℕ) (config : List ℕ) (v : Option ℕ) (w : ℕ) → IsLeastFrom c year rs n config v → IsAtMost (reached_at rs n).config config → w ≡ through c year rs n config → IsLeastFrom c year rs (n + 1) config (Some (lesser_of v w))
 least_more c year rs n config None w h g e = (
-    record { place = n; within = omega arith; grows = g; costs = sym e },
-    λ i b k. ⊎_elim (λ same. rw same (omega (arith, e))) (λ other. absurd (h i (omega (arith, b, other)) k)) (cases_eq i n))
+  record { place = n; within = omega arith; grows = g; costs = sym e },
+  λ i b k. ⊎_elim (λ same. rw same (omega (arith, e))) (λ other. absurd (h i (omega (arith, b, other)) k)) (cases_eq i n),
+)
 least_more c year rs n config (Some v) w h g e = least_here c year rs n config v w h g e
 
 pub lesser_small : (v : Option ℕ) (w most : ℕ) → IfSome v (λ x. x ≤ most) → w ≤ most → lesser_of v w ≤ most
@@ -81,30 +85,30 @@ numbered_more layer come n cost rs h e =
     record {
       stand = λ j b. ⊎_elim
           (λ same.
-              let at : reached_at (rs ++ r ∷ []) j ≡ r = ap (λ k. reached_at (rs ++ r ∷ []) k) same ∙ reached_end rs r in
-              rw at (record { place = n; within = omega arith; same = refl; costs = e }))
+          let at : reached_at (rs ++ r ∷ []) j ≡ r = ap (λ k. reached_at (rs ++ r ∷ []) k) same ∙ reached_end rs r in
+          rw at (record { place = n; within = omega arith; same = refl; costs = e }))
           (λ other.
-              let b' : j < length rs = omega (arith, b, long, other) in
-              let s = h.stand j b' in
-              rw (reached_front rs r j b') (record { place = s.place; within = omega (arith, s.within); same = s.same; costs = s.costs }))
+          let b' : j < length rs = omega (arith, b, long, other) in
+          let s = h.stand j b' in
+          rw (reached_front rs r j b') (record { place = s.place; within = omega (arith, s.within); same = s.same; costs = s.costs }))
           (cases_eq j (length rs));
       all = λ i v b f. ⊎_elim
           (λ same.
-              let cheap : Some cost ≡ Some v = sym e ∙ (ap (λ k. get_or come k None) (sym same) ∙ f) in
-              record {
-                place = length rs;
-                within = omega (arith, long);
-                same = ap (λ (x : Reached). x.config) (reached_end rs r) ∙ ap (λ k. (entry_at layer k).config) (sym same);
-                costs = ap (λ (x : Reached). x.cost) (reached_end rs r) ∙ ap (λ (o : Option ℕ). unwrap_or o 0) cheap;
-              })
+          let cheap : Some cost ≡ Some v = sym e ∙ (ap (λ k. get_or come k None) (sym same) ∙ f) in
+          record {
+            place = length rs;
+            within = omega (arith, long);
+            same = ap (λ (x : Reached). x.config) (reached_end rs r) ∙ ap (λ k. (entry_at layer k).config) (sym same);
+            costs = ap (λ (x : Reached). x.cost) (reached_end rs r) ∙ ap (λ (o : Option ℕ). unwrap_or o 0) cheap;
+          })
           (λ other.
-              let a = h.all i v (omega (arith, b, other)) f in
-              record {
-                place = a.place;
-                within = omega (arith, a.within, long);
-                same = ap (λ (x : Reached). x.config) (reached_front rs r a.place a.within) ∙ a.same;
-                costs = ap (λ (x : Reached). x.cost) (reached_front rs r a.place a.within) ∙ a.costs;
-              })
+          let a = h.all i v (omega (arith, b, other)) f in
+          record {
+            place = a.place;
+            within = omega (arith, a.within, long);
+            same = ap (λ (x : Reached). x.config) (reached_front rs r a.place a.within) ∙ a.same;
+            costs = ap (λ (x : Reached). x.cost) (reached_front rs r a.place a.within) ∙ a.costs;
+          })
           (cases_eq i n);
     }
 
@@ -218,9 +222,9 @@ pub with_way : (c : CostData) (year : ℕ) (rs : List Reached) (n : ℕ) (r : Re
 with_way c year rs n r config v w h e k =
     let k' : IsWithWay c year (reached_at rs n) config v w = subst (λ (x : Reached). IsWithWay c year x config v w) e k in
     ⊎_elim
-        (λ grows. subst (λ (o : Option ℕ). IsLeastFrom c year rs (n + 1) config o) (sym grows.1) (least_more c year rs n config v (through c year rs n config) h grows.0 refl))
-        (λ other. subst (λ (o : Option ℕ). IsLeastFrom c year rs (n + 1) config o) (sym other.1) (least_skip c year rs n config v h other.0))
-        k'
+    (λ grows. subst (λ (o : Option ℕ). IsLeastFrom c year rs (n + 1) config o) (sym grows.1) (least_more c year rs n config v (through c year rs n config) h grows.0 refl))
+    (λ other. subst (λ (o : Option ℕ). IsLeastFrom c year rs (n + 1) config o) (sym other.1) (least_skip c year rs n config v h other.0))
+    k'
 
 numbered_case : (layer : List Scored) (come : List (Option ℕ)) (n : ℕ) (rs new : List Reached) (o : Option ℕ) → o ≡ get_or come n None → AreNumbered layer come n rs →
     ((cost : ℕ) → get_or come n None ≡ Some cost → new ≡ rs ++ record { config = (entry_at layer n).config; cost = cost } ∷ []) → (get_or come n None ≡ None → new ≡ rs) → AreNumbered layer come (n + 1) new
@@ -243,7 +247,7 @@ come_none t = record {
 year_here : (t : Table) (k j i : ℕ) (row come : List (Option ℕ)) → row ≡ come → j ≡ k → ((x : ℕ) → x < length (layer_at t k) → IsWayCost t k (entry_at (layer_at t k) x) (get_or come x None)) → i < length (layer_at t j) → IsWayCost t j (entry_at (layer_at t j) i) (get_or row i None)
 year_here t k j i row come e same ways h =
     subst (λ (xs : List (Option ℕ)). IsWayCost t j (entry_at (layer_at t j) i) (get_or xs i None)) (sym e)
-        (subst (λ (x : ℕ). i < length (layer_at t x) → IsWayCost t x (entry_at (layer_at t x) i) (get_or come i None)) (sym same) (ways i) h)
+    (subst (λ (x : ℕ). i < length (layer_at t x) → IsWayCost t x (entry_at (layer_at t x) i) (get_or come i None)) (sym same) (ways i) h)
 
 pub come_more : (t : Table) (k : ℕ) (years : List (List (Option ℕ))) (come : List (Option ℕ)) → AreWayCosts t k years → length come ≡ length (layer_at t k) →
     ((i : ℕ) → i < length (layer_at t k) → IsWayCost t k (entry_at (layer_at t k) i) (get_or come i None)) → ((i cost : ℕ) → get_or come i None ≡ Some cost → cost ≤ (k + 1) * (2 * 10 ^ 16)) → k < 30 → AreWayCosts t (k + 1) (years ++ come ∷ [])
@@ -264,9 +268,9 @@ come_more t k years come h long ways small few =
       small = λ j i cost e. ⊎_elim
           (λ below. h.small j i cost (sym (ap (λ (xs : List (Option ℕ)). get_or xs i None) (front j below)) ∙ e))
           (λ above. ⊎_elim
-              (λ same. omega (arith, few, small i cost (sym (ap (λ (xs : List (Option ℕ)). get_or xs i None) (here j same)) ∙ e)))
-              (λ other. absurd (none-some cost (sym (ap (λ (xs : List (Option ℕ)). get_or xs i None) (get_or_past (years ++ come ∷ []) j [] (omega (arith, n, h.years, above, other)))) ∙ e)))
-              (cases_eq j k))
+          (λ same. omega (arith, few, small i cost (sym (ap (λ (xs : List (Option ℕ)). get_or xs i None) (here j same)) ∙ e)))
+          (λ other. absurd (none-some cost (sym (ap (λ (xs : List (Option ℕ)). get_or xs i None) (get_or_past (years ++ come ∷ []) j [] (omega (arith, n, h.years, above, other)))) ∙ e)))
+          (cases_eq j k))
           (cases_lt j k);
     }
 
@@ -296,4 +300,4 @@ pub year_step : (t : Table) (k : ℕ) (rs rs' : List Reached) (years : List (Lis
     AreNumbered layer come (length layer) rs' → YearDone t (k + 1) rs' (years ++ come ∷ [])
 year_step t k rs rs' years layer come e v h d long raised small n =
     subst (λ (xs : List Scored). length come ≡ length xs → ((i : ℕ) → i < length xs → IsRaised t.economy (k + 1) rs (entry_at xs i) (get_or come i None)) → AreNumbered xs come (length xs) rs' → YearDone t (k + 1) rs' (years ++ come ∷ []))
-        (sym e) (λ l r m. year_step_at t k rs rs' years come v h d l r small m) long raised n
+    (sym e) (λ l r m. year_step_at t k rs rs' years come v h d l r small m) long raised n

@@ -1,6 +1,5 @@
 -- Whole plans in the order of choice: by cost, and then by the configurations from the last back.
-use Rattle.std.proofs.Common.{◌≡◌, ℕ, zero, suc, ◌+◌, ◌-◌, ◌<◌, ◌≤◌, List, [], ◌∷◌, ◌++◌, length, map, reverse, get_or, Contains, Option, Some, None, sym, ap, ◌∙◌, arith, refl, subst, ⊎_elim, inl, inr, true≢false, ◌≢◌, ◌⊎◌}
-use Rattle.std.specs.Cmp.{eq_by_cmp_equiv, nat_cmp_is}
+use Rattle.std.proofs.Common.{◌≡◌, ℕ, ◌<◌, List, [], ◌∷◌, ◌++◌, reverse, sym, ap, ◌∙◌, arith, refl, ⊎_elim, inl, inr, true≢false, ◌≢◌, ◌⊎◌}
 use Rattle.std.specs.Cmp.Lexicographic.{slice_cmp}
 use Rattle.std.specs.Ordering.{is_gt, is_lt, nat_cmp, ordering_reverse, ordering_then}
 use Rattle.std.specs.declared.cmp.Ordering.{Ordering}
@@ -8,10 +7,9 @@ use Rattle.std.specs.declared.cmp.Ordering.TheVariants.{Less, Equal, Greater}
 use Rattle.std.proofs.lemmas.Grind.{reverse_onto}
 use Rattle.std.proofs.lemmas.Cmp.{nat_list_cmp_total}
 use Rattle.std.proofs.lemmas.List.{reverse-reverse}
-use Rattle.cost_terms.specs.Table.{plan_cost}
 use Rattle.cost_terms.specs.declared.entries.Scored.{Scored}
 use Rattle.cost_terms.specs.declared.prices.CostData.{CostData}
-use Rattle.plan_program.specs.Chosen.{ComesNoLater, IsNoWorse, backwards}
+use Rattle.plan_program.specs.Chosen.{IsNoWorse, backwards}
 use Rattle.plan_program.specs.Plans.{configs}
 use Rattle.plan_program.specs.Ways.{way_cost}
 use Rattle.plan_program.proofs.Ways.{cost_same, reverse_more}
@@ -38,16 +36,16 @@ NoWorse c xs ys = (way_cost c xs < way_cost c ys) ⊎ ((way_cost c xs ≡ way_co
 pub no_worse : (c : CostData) (xs ys : List Scored) → NoWorse c xs ys → IsNoWorse c (reverse xs) (reverse ys)
 no_worse c xs ys h =
     ⊎_elim
-        (λ less. inl (omega (arith, less, cost_same c xs, cost_same c ys)))
-        (λ same. inr (cost_same c xs ∙ (same.0 ∙ sym (cost_same c ys)), rw (backwards_is xs) (rw (backwards_is ys) same.1)))
-        h
+    (λ less. inl (omega (arith, less, cost_same c xs, cost_same c ys)))
+    (λ same. inr (cost_same c xs ∙ (same.0 ∙ sym (cost_same c ys)), rw (backwards_is xs) (rw (backwards_is ys) same.1)))
+    h
 
 pub worse_no : (c : CostData) (xs ys : List Scored) → IsNoWorse c (reverse xs) (reverse ys) → NoWorse c xs ys
 worse_no c xs ys h =
     ⊎_elim
-        (λ less. inl (omega (arith, less, cost_same c xs, cost_same c ys)))
-        (λ same. inr (sym (cost_same c xs) ∙ (same.0 ∙ cost_same c ys), rw (← backwards_is xs) (rw (← backwards_is ys) same.1)))
-        h
+    (λ less. inl (omega (arith, less, cost_same c xs, cost_same c ys)))
+    (λ same. inr (sym (cost_same c xs) ∙ (same.0 ∙ cost_same c ys), rw (← backwards_is xs) (rw (← backwards_is ys) same.1)))
+    h
 
 equal_itself : (o : Ordering) → o ≡ ordering_reverse o → o ≡ Equal
 equal_itself Less e = absurd (true≢false (ap is_lt e))

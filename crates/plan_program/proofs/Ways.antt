@@ -1,5 +1,5 @@
 -- Plans and the same plans from their last year back.
-use Rattle.std.proofs.Common.{◌≡◌, ℕ, zero, suc, ◌+◌, ◌-◌, ◌*◌, ◌<◌, ◌≤◌, List, [], ◌∷◌, ◌++◌, length, map, reverse, get_or, replicate, Contains, sym, ap, ◌∙◌, arith, refl, subst, ⊎_elim}
+use Rattle.std.proofs.Common.{◌≡◌, ℕ, ◌+◌, ◌-◌, ◌<◌, ◌≤◌, List, [], ◌∷◌, ◌++◌, length, reverse, Contains, sym, ap, ◌∙◌, arith, refl, subst, ⊎_elim}
 use Rattle.std.proofs.Math.ListN.{get_or-append}
 use Rattle.std.proofs.Math.Seq.{get_or-append_seam}
 use Rattle.std.proofs.lemmas.Bool.{cases_eq}
@@ -37,12 +37,12 @@ admissible_more t xs e a h c g = record {
       (cases_eq k (length xs));
   grows = λ k b. ⊎_elim
       (λ same.
-          let at : entry_at (xs ++ e ∷ []) (k + 1) ≡ e = ap (λ i. entry_at (xs ++ e ∷ []) i) same ∙ end_at xs e in
-          let before : entry_at (xs ++ e ∷ []) k ≡ entry_at xs (length xs - 1) = front_at xs e k (omega (arith, same)) ∙ ap (λ i. entry_at xs i) (omega (arith, same)) in
-          rw at (rw before (g (omega (arith, same)))))
+      let at : entry_at (xs ++ e ∷ []) (k + 1) ≡ e = ap (λ i. entry_at (xs ++ e ∷ []) i) same ∙ end_at xs e in
+      let before : entry_at (xs ++ e ∷ []) k ≡ entry_at xs (length xs - 1) = front_at xs e k (omega (arith, same)) ∙ ap (λ i. entry_at xs i) (omega (arith, same)) in
+      rw at (rw before (g (omega (arith, same)))))
       (λ other.
-          let n = length-append xs (e ∷ []) in
-          rw (front_at xs e k (omega (arith, b, n))) (rw (front_at xs e (k + 1) (omega (arith, b, n, other))) (a.grows k (omega (arith, b, n, other)))))
+      let n = length-append xs (e ∷ []) in
+      rw (front_at xs e k (omega (arith, b, n))) (rw (front_at xs e (k + 1) (omega (arith, b, n, other))) (a.grows k (omega (arith, b, n, other)))))
       (cases_eq (k + 1) (length xs));
 }
 

@@ -2,7 +2,7 @@
 -- least last configuration, then with the least before it, and so on backwards; or the first year that no
 -- admissible plan reaches. After the optimal solution of DYNPRO in the IAEA's Computer Manual Series No. 16;
 -- the choice among equal plans is this program's own.
-use Rattle.std.specs.Prelude.{◌≡◌, ℕ, ◌<◌, ◌≤◌, ◌≢◌, ◌⊎◌, List, length, reverse, Option}
+use Rattle.std.specs.Prelude.{◌≡◌, ℕ, ◌<◌, ◌≤◌, ◌≢◌, ◌⊎◌, List, length, reverse}
 use Rattle.std.specs.Cmp.Lexicographic.{slice_cmp}
 use Rattle.std.specs.Ordering.{nat_cmp}
 use Rattle.std.specs.declared.cmp.Ordering.TheVariants.{Greater}

@@ -2,7 +2,7 @@
 -- admissible trajectories of DYNPRO in the IAEA's Computer Manual Series No. 16.
 --
 -- A plan is the list of its years' entries, each a configuration with its row, from year 1 on.
-use Rattle.std.specs.Prelude.{◌≡◌, ℕ, ◌+◌, ◌<◌, ◌≤◌, List, [], length, map, Contains, slice_index_or}
+use Rattle.std.specs.Prelude.{ℕ, ◌+◌, ◌<◌, ◌≤◌, List, [], length, map, Contains, slice_index_or}
 use Rattle.plant_data.specs.Configs.{IsAtMost}
 use Rattle.plant_data.specs.declared.row.Row.{Row}
 use Rattle.cost_terms.specs.Table.{Table}

@@ -6,8 +6,8 @@ ghost use Rattle.plan_program.specs.CostToCome.{come_at};
 ghost use Rattle.plan_program.specs.Plans.{entry_at};
 ghost use Rattle.plan_program.specs.Steps.{AreNumbered, AreWayCosts, IsLeastFrom, IsRaised, IsWithWay, reached_at};
 
-use cost_terms::{CaseTable, Economy, Scored, build_cost, run_cost};
 use crate::solved::CostToCome;
+use cost_terms::{CaseTable, Economy, Scored, build_cost, run_cost};
 use plant_data::{Config, Listed};
 use std::alloc::{AllocError, Global};
 

@@ -90,12 +90,7 @@ pub fn costs_of(come: &[Listed<Option<u64>>], year: usize) -> &[Option<u64>]
 
 /// The place of the entry from which the best plan comes to the entry at a place of a year's layer, years and
 /// places counted from 0.
-fn find_before(
-    table: &CaseTable,
-    come: &[Listed<Option<u64>>],
-    year: usize,
-    place: usize,
-) -> usize
+fn find_before(table: &CaseTable, come: &[Listed<Option<u64>>], year: usize, place: usize) -> usize
     requires some_year { 1 ≤ year }
     requires year { year < length table.now.layers }
     requires place { place < length (layer_at table.now year) }

@@ -1,27 +1,22 @@
 -- Each atomic step of the table is its event.
-use Rattle.std.proofs.Common.{true≢false, eq-eqb, ne_eqb, ◌≡◌, ◌≢◌, ℕ, ◌+◌, ◌*◌, ◌^◌, ◌<◌, ◌≤◌, Bool, true, false, List, [], ◌∷◌, ◌++◌, ◌⊎◌, ◌==◌, if◌then◌else◌, length, set, map, Option, Some, None, sym, refl, ap, ◌∙◌, subst, inl, inr, ⊎_elim, arith}
-use Rattle.std.specs.Prelude.{slice_index, slice_set, nat_lt}
-use Rattle.std.proofs.lemmas.Bool.{cases_eq, cases_Bool}
+use Rattle.std.proofs.Common.{eq-eqb, ne_eqb, ◌≡◌, ◌≢◌, ℕ, ◌+◌, ◌^◌, ◌<◌, Bool, true, false, List, [], ◌∷◌, ◌++◌, ◌==◌, if◌then◌else◌, set, map, Some, None, sym, refl, ap, ◌∙◌, subst}
+use Rattle.std.specs.Prelude.{slice_index, slice_set}
 use Rattle.std.proofs.lemmas.List.{map-set, map-append, set-get_or}
-use mathlib.Core.Option.{some}
-use lib.ListN.{get_elem?}
 use Rattle.board_core.specs.declared.actor.Actor.{Actor}
 use Rattle.board_core.specs.declared.actor.Hand.{Hand}
 use Rattle.board_core.specs.declared.row.KeptRow.{KeptRow}
-use Rattle.board_core.specs.declared.event.Event.{Event}
 use Rattle.board_core.specs.declared.event.Event.TheVariants.{LookCode, PlaceCode, WriteWord, Publish, LookState, ReadWord, Split, Join}
 use Rattle.board_core.specs.Lists.{IsIn}
-use Rattle.board_core.specs.Sound.{Terms, Cells, Saw, Reaches}
-use Rattle.board_core.specs.Events.{sees, takes, writes, publishes, learns, keeps_share, copy_of, joined, spent, placed, written, published, SawOther}
+use Rattle.board_core.specs.Sound.{Saw, Reaches}
+use Rattle.board_core.specs.Events.{sees, takes, writes, publishes, learns, keeps_share, copy_of, joined, spent, written, SawOther}
 use Rattle.board_core.specs.Rows.{terms, codes_of, due_word}
-use Rattle.board_core.specs.Happens.{Moment, Happens, Only}
 use Rattle.board_core.proofs.Parts.{fits_of}
 use Rattle.atomic_table.specs.Table.{Step}
 use Rattle.sim_board.specs.declared.view.View.{View}
-use Rattle.sim_board.specs.Standing.{base, cells_of, actor_of, IsStanding, view_with, slot_of, at_of, looked, placed_at, wrote, learned, spent_view, Looks, Places, Writes, Publishes, LooksState, ReadsWord, Tells}
-use Rattle.sim_board.specs.EventSteps.{Running, seen_as, IsEvent, HasSeat, StepsAreEvents}
+use Rattle.sim_board.specs.Standing.{base, cells_of, actor_of, view_with, slot_of, at_of, looked, placed_at, wrote, learned, spent_view, Looks, Places, Writes, Publishes, LooksState, ReadsWord}
+use Rattle.sim_board.specs.EventSteps.{Running, IsEvent, HasSeat, StepsAreEvents}
 use Rattle.sim_board.proofs.Allowed.{at_actor, slot_of-base, cells-placed}
-use Rattle.sim_board.proofs.RowSteps.{slot_of-row, slot_of-state, at_of-row, ltb-of, cells-written, cells-published, hand_slot, writes_wrote}
+use Rattle.sim_board.proofs.RowSteps.{slot_of-state, at_of-row, ltb-of, cells-written, cells-published, hand_slot, writes_wrote}
 
 -- the actors after a view changed
 actors_set : (views : List View) (id : ℕ) (w : View) (a : Actor) → w.actor ≡ a → map actor_of (slice_set views id w) ≡ slice_set (map actor_of views) id a

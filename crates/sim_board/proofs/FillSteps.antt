@@ -1,8 +1,7 @@
 -- The words of a slot in hand, put one after another.
-use Rattle.std.proofs.Common.{◌≡◌, ◌≢◌, ℕ, zero, suc, ◌+◌, ◌<◌, ◌≤◌, List, [], ◌∷◌, ◌⊎◌, Option, Some, None, sym, refl, ap, ◌∙◌, subst, inl, inr, ⊎_elim, arith, length}
+use Rattle.std.proofs.Common.{◌≡◌, ◌≢◌, ℕ, zero, suc, ◌+◌, ◌<◌, List, [], Option, Some, None, sym, refl, ap, ◌∙◌, subst, inl, inr, ⊎_elim, arith}
 use Rattle.std.specs.Prelude.{slice_index}
 use Rattle.std.proofs.lemmas.Bool.{cases_eq}
-use Rattle.board_core.specs.declared.actor.Actor.{Actor}
 use Rattle.board_core.specs.declared.actor.Hand.{Hand}
 use Rattle.board_core.specs.Lists.{IsIn}
 use Rattle.board_core.specs.Rows.{due_word}

@@ -1,6 +1,6 @@
 -- Worked rows: a board over two codes, and a table of two slots, of which the second is filled.
-use Rattle.std.proofs.Common.{◌≡◌, ℕ, zero, suc, ◌+◌, ◌*◌, ◌^◌, ◌<◌, ◌≤◌, List, [], ◌∷◌, ◌++◌, replicate, refl, arith}
-use Rattle.board_core.specs.Trial.{same, same_row}
+use Rattle.std.proofs.Common.{◌≡◌, ℕ, zero, suc, ◌^◌, ◌<◌, List, [], ◌∷◌, ◌++◌, replicate, refl, arith}
+use Rattle.board_core.specs.Trial.{same_row}
 use Rattle.sim_board.specs.Standing.{base, slot_of, at_of, cells_of}
 use Rattle.sim_board.specs.Start.{IsLeastRoom}
 use Rattle.sim_board.specs.Collected.{rows_below}

@@ -1,5 +1,5 @@
 -- Seats and boards of the trials, whose due rows are the codes eleven times.
-use Rattle.std.specs.Prelude.{◌≡◌, ◌≢◌, ℕ, List, None}
+use Rattle.std.specs.Prelude.{◌≡◌, ℕ, List, None}
 use Rattle.board_core.specs.Trial.{same}
 use Rattle.sim_board.specs.Seats.{BoardIs, SeatIs}
 use Rattle.sim_board.specs.Start.{rows_for}

@@ -1,5 +1,5 @@
 -- What blocks load of each unit, one block more, and without one unit.
-use Rattle.std.proofs.Common.{◌≡◌, ℕ, zero, suc, ◌+◌, ◌-◌, ◌*◌, ◌/◌, ◌<◌, ◌≤◌, ◌++◌, ◌==◌, cond, not, true, false, List, [], ◌∷◌, length, get_or, take, map, sym, ap, subst, ◌∙◌, arith, refl, inl, inr, eq-eqb, zero-add, ◌⊎◌}
+use Rattle.std.proofs.Common.{◌≡◌, ℕ, zero, suc, ◌+◌, ◌-◌, ◌/◌, ◌<◌, ◌≤◌, ◌++◌, ◌==◌, cond, not, true, false, List, [], ◌∷◌, length, get_or, map, sym, ap, subst, ◌∙◌, arith, refl, inl, inr, eq-eqb, ◌⊎◌}
 use Rattle.std.specs.Bool.{⊤}
 use Rattle.std.specs.List.{AllByRecursion, All, filter}
 use Rattle.std.proofs.lemmas.Bool.{cases_eq, ne_eqb}
@@ -7,7 +7,6 @@ use Rattle.std.proofs.lemmas.List.{append-nil, length-map, map-append}
 use Rattle.std.proofs.lemmas.List.Elements.{All-map, filter-append}
 use Rattle.std.proofs.lemmas.List.Sums.{sum_by_push}
 use Rattle.wasp_fixed.specs.declared.numbers.TheConstants.{M}
-use Rattle.convolution.specs.EquivalentLoad.{Part}
 use Rattle.loading_order.specs.declared.blocks.Block.{Block}
 use Rattle.sim_engine.specs.Loading.{cells_in, loaded, others, own, units_in}
 use Rattle.sim_engine.specs.Stack.{grown, part_of, parts_of, without}

@@ -6,3 +6,7 @@ pub mod WaterSteps
 pub mod Fleets
 pub mod PieceSteps
 pub mod RowSteps
+pub mod GenerationSteps
+pub mod TapeSteps
+pub mod Rooms
+mod WorkedRows

@@ -6,3 +6,4 @@ pub mod Loading
 pub mod Prepared
 pub mod Row
 pub mod Stack
+pub mod Told

@@ -1,13 +1,32 @@
-//! The simulation of a configuration of a year.
+//! The simulation of a configuration of a year: the module MERSIM (IAEA Computer Manual Series No. 16,
+//! after Baleriaux and Booth).
+//!
+//! It stands on `year_system` for what is simulated, on `load_curves` and `hydro_shave` for the load that
+//! is left for the thermal units, on `loading_order` for their blocks and maintenance, and on
+//! `convolution` for the equivalent load. The contract that the layers above use is the trait
+//! [`SimEngine`]: `simulate` answers the row of a system and a configuration, within its bounds, counted
+//! once and with no memory taken; `detail` writes the generations.
+//!
+//! Two engines are here: [`PlainEngine`], and [`TapeEngine`], which also tells its runs. The cells, the
+//! floors and the order of convolution are this program's own.
+//!
+//! Limits: 65,536 cells and 128 thermal units, 400,000 MW. Only `ready` and `TapeEngine::new` take memory.
 #![tactic(auto)]
 
 mod condition;
 mod costs;
 mod engine;
 mod fleet;
+mod generation;
 mod period;
+mod plain;
 mod rows;
 mod stack;
+mod tape;
+#[cfg(test)]
+mod tests;
 mod water;
 
 pub use engine::SimEngine;
+pub use plain::PlainEngine;
+pub use tape::{Run, TapeEngine};

@@ -1,5 +1,5 @@
 -- The configurations of a tunnel by their counts one after the other, and which comes next.
-use Rattle.std.proofs.Common.{◌≡◌, ℕ, zero, suc, ◌+◌, ◌-◌, ◌*◌, ◌<◌, ◌≤◌, List, [], ◌∷◌, length, get_or, sym, ap, ◌∙◌, arith, refl, subst, ⊎_elim, ◌⊎◌, inl, inr, true≢false}
+use Rattle.std.proofs.Common.{◌≡◌, ℕ, zero, suc, ◌+◌, ◌-◌, ◌*◌, ◌<◌, ◌≤◌, List, [], ◌∷◌, length, get_or, sym, ap, ◌∙◌, arith, refl, subst, ⊎_elim, inl, inr, true≢false}
 use Rattle.std.specs.Bool.{⊤}
 use Rattle.std.specs.Cmp.{nat_cmp_is}
 use Rattle.std.specs.Cmp.Lexicographic.{slice_cmp}
@@ -7,12 +7,11 @@ use Rattle.std.specs.Ordering.{is_lt, nat_cmp, ordering_then}
 use Rattle.std.specs.declared.cmp.Ordering.{Ordering}
 use Rattle.std.specs.declared.cmp.Ordering.TheVariants.{Less, Equal, Greater}
 use Rattle.std.proofs.lemmas.Bool.{cases_eq, cases_lt}
-use Rattle.std.proofs.Math.Nat.{mul-le-mul_right, mul-le-mul_left, add-mul}
+use Rattle.std.proofs.Math.Nat.{mul-le-mul_right, add-mul}
 use Rattle.plant_data.specs.declared.row.Tunnel.{Tunnel}
 use Rattle.tunnel_configs.specs.Listed.{IsInTunnel}
 use Rattle.tunnel_configs.specs.Neighbours.{IsLast, IsNext, IsNotAfter, left_in}
 use Rattle.year_system.specs.System.{size}
-use Rattle.year_system.proofs.Radix.{size_pos}
 
 -- each count within its least and its width
 abbrev pub InBox : List ℕ → List ℕ → List ℕ → Type 0
@@ -83,10 +82,10 @@ full_last (l ∷ ls) [] (x ∷ xs) (y ∷ c) h e f = absurd h
 full_last (l ∷ ls) (w ∷ ws) (x ∷ xs) (y ∷ c) h e f =
     let top : x ≡ l + w = f 0 (omega arith) in
     ⊎_elim
-        (λ below. inr (first_less y x c xs below))
-        (λ above.
-            not_after_more y x c xs (omega (arith, above, top, h.1)) (full_last ls ws xs c h.2 (omega (arith, e)) (λ i b. f (suc i) (omega (arith, b)))))
-        (cases_lt y x)
+    (λ below. inr (first_less y x c xs below))
+    (λ above.
+    not_after_more y x c xs (omega (arith, above, top, h.1)) (full_last ls ws xs c h.2 (omega (arith, e)) (λ i b. f (suc i) (omega (arith, b)))))
+    (cases_lt y x)
 
 -- nothing comes before the least configuration
 pub none_below_least : (ls ws c : List ℕ) → InBox ls ws c → slice_cmp nat_cmp c ls ≡ Less → ⊥
@@ -96,9 +95,9 @@ none_below_least (l ∷ ls) ws [] h e = absurd h
 none_below_least (l ∷ ls) [] (y ∷ c) h e = absurd h
 none_below_least (l ∷ ls) (w ∷ ws) (y ∷ c) h e =
     ⊎_elim
-        (λ same. none_below_least ls ws c h.2 (sym (first_equal y l c ls same) ∙ e))
-        (λ other. less_not_greater (slice_cmp nat_cmp (y ∷ c) (l ∷ ls)) e (first_greater y l c ls (omega (arith, h.0, other))))
-        (cases_eq y l)
+    (λ same. none_below_least ls ws c h.2 (sym (first_equal y l c ls same) ∙ e))
+    (λ other. less_not_greater (slice_cmp nat_cmp (y ∷ c) (l ∷ ls)) e (first_greater y l c ls (omega (arith, h.0, other))))
+    (cases_eq y l)
 
 pub left_pos : (ls ws xs : List ℕ) → 1 ≤ left_in ls ws xs
 left_pos [] ws xs = omega arith
@@ -146,15 +145,15 @@ between_here : (l w x y : ℕ) (ls ws xs ys c : List ℕ) → InBox (l ∷ ls) (
 between_here l w x y ls ws xs ys [] b g least long full less = absurd b
 between_here l w x y ls ws xs ys (z ∷ c) b g least long full less =
     ⊎_elim
-        (λ below. inr (first_less z x c xs below))
-        (λ above. ⊎_elim
-            (λ same. not_after_more z x c xs same (full_last ls ws xs c b.2 long full))
-            (λ other. ⊎_elim
-                (λ at. absurd (none_below_least ls ws c b.2 (ap (λ (zs : List ℕ). slice_cmp nat_cmp c zs) (sym least) ∙ (sym (first_equal z y c ys at) ∙ less))))
-                (λ past. absurd (less_not_greater (slice_cmp nat_cmp (z ∷ c) (y ∷ ys)) less (first_greater z y c ys (omega (arith, past, g, above, other)))))
-                (cases_eq z y))
-            (cases_eq z x))
-        (cases_lt z x)
+    (λ below. inr (first_less z x c xs below))
+    (λ above. ⊎_elim
+    (λ same. not_after_more z x c xs same (full_last ls ws xs c b.2 long full))
+    (λ other. ⊎_elim
+    (λ at. absurd (none_below_least ls ws c b.2 (ap (λ (zs : List ℕ). slice_cmp nat_cmp c zs) (sym least) ∙ (sym (first_equal z y c ys at) ∙ less))))
+    (λ past. absurd (less_not_greater (slice_cmp nat_cmp (z ∷ c) (y ∷ ys)) less (first_greater z y c ys (omega (arith, past, g, above, other)))))
+    (cases_eq z y))
+    (cases_eq z x))
+    (cases_lt z x)
 
 next_here : (l w x y : ℕ) (ls ws xs ys : List ℕ) → InBox (l ∷ ls) (w ∷ ws) (x ∷ xs) → length ws ≡ length ls → Grown (l ∷ ls) (w ∷ ws) (x ∷ xs) (y ∷ ys) 0 → Next (l ∷ ls) (w ∷ ws) (x ∷ xs) (y ∷ ys)
 next_here l w x y ls ws xs ys h e g =
@@ -176,12 +175,12 @@ between_later : (l w x y : ℕ) (ls ws xs ys c : List ℕ) → InBox (l ∷ ls) 
 between_later l w x y ls ws xs ys [] b e n less = absurd b
 between_later l w x y ls ws xs ys (z ∷ c) b e n less =
     ⊎_elim
-        (λ below. inr (first_less z x c xs below))
-        (λ above. ⊎_elim
-            (λ same. not_after_more z x c xs same (n.none_between c b.2 (sym (first_equal z y c ys (same ∙ e)) ∙ less)))
-            (λ other. absurd (less_not_greater (slice_cmp nat_cmp (z ∷ c) (y ∷ ys)) less (first_greater z y c ys (omega (arith, e, above, other)))))
-            (cases_eq z x))
-        (cases_lt z x)
+    (λ below. inr (first_less z x c xs below))
+    (λ above. ⊎_elim
+    (λ same. not_after_more z x c xs same (n.none_between c b.2 (sym (first_equal z y c ys (same ∙ e)) ∙ less)))
+    (λ other. absurd (less_not_greater (slice_cmp nat_cmp (z ∷ c) (y ∷ ys)) less (first_greater z y c ys (omega (arith, e, above, other)))))
+    (cases_eq z x))
+    (cases_lt z x)
 
 next_later : (l w x y : ℕ) (ls ws xs ys : List ℕ) → InBox (l ∷ ls) (w ∷ ws) (x ∷ xs) → x ≡ y → Next ls ws xs ys → Next (l ∷ ls) (w ∷ ws) (x ∷ xs) (y ∷ ys)
 next_later l w x y ls ws xs ys h e n =

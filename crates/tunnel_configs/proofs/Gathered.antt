@@ -1,5 +1,5 @@
 -- The listed configurations that a walk through a tunnel has found so far.
-use Rattle.std.proofs.Common.{◌≡◌, ℕ, ◌+◌, ◌<◌, ◌≤◌, ◌↔◌, List, [], ◌∷◌, ◌++◌, length, take, Contains, sym, ap, ◌∙◌, arith, refl, ⊎_elim, subst, inl, inr}
+use Rattle.std.proofs.Common.{◌≡◌, ℕ, ◌+◌, ◌≤◌, ◌↔◌, List, [], ◌∷◌, ◌++◌, length, take, Contains, sym, ap, ◌∙◌, arith, refl, ⊎_elim, subst, inl, inr}
 use Rattle.std.specs.Cmp.Lexicographic.{slice_cmp}
 use Rattle.std.specs.Ordering.{nat_cmp}
 use Rattle.std.specs.declared.cmp.Ordering.TheVariants.{Less}
@@ -40,9 +40,10 @@ pub found_skip : (s : System) (t : Tunnel) (m : Margin) (x : List ℕ) (n : ℕ)
 found_skip s t m x n configs f h = record {
   all = f.all;
   rising = f.rising;
-  each = λ c.
-      (λ b. let l = (f.each c).0 b in (l.0, inr l.1),
-       λ l. ⊎_elim (λ e. absurd (h (subst (λ (z : List ℕ). MeetsMargin s m z) e l.0.margin))) (λ less. (f.each c).1 (l.0, less)) l.1);
+  each = λ c. (
+    λ b. let l = (f.each c).0 b in (l.0, inr l.1),
+    λ l. ⊎_elim (λ e. absurd (h (subst (λ (z : List ℕ). MeetsMargin s m z) e l.0.margin))) (λ less. (f.each c).1 (l.0, less)) l.1,
+  );
   many = f.many;
   first = f.first;
 }
@@ -51,15 +52,16 @@ pub found_add : (s : System) (t : Tunnel) (m : Margin) (x : List ℕ) (n : ℕ) 
 found_add s t m x n configs f b h = record {
   all = f.all ++ x ∷ [];
   rising = rising_push f.all x f.rising (λ c l. ((f.each c).0 l).1);
-  each = λ c.
-      (λ l. ⊎_elim
-          (λ before. let k = (f.each c).0 before in (k.0, inr k.1))
-          (λ e. (subst (λ (z : List ℕ). IsListed s t m z) e (record { tunnel = b; margin = h }), inl (sym e)))
-          (Contains-push_cases f.all x c l),
-       λ l. ⊎_elim
-          (λ e. subst (λ (z : List ℕ). Contains (f.all ++ x ∷ []) z) (sym e) (Contains-push f.all x))
-          (λ less. Contains-append_left f.all (x ∷ []) c ((f.each c).1 (l.0, less)))
-          l.1);
+  each = λ c. (
+    λ l. ⊎_elim
+        (λ before. let k = (f.each c).0 before in (k.0, inr k.1))
+        (λ e. (subst (λ (z : List ℕ). IsListed s t m z) e (record { tunnel = b; margin = h }), inl (sym e)))
+        (Contains-push_cases f.all x c l),
+    λ l. ⊎_elim
+        (λ e. subst (λ (z : List ℕ). Contains (f.all ++ x ∷ []) z) (sym e) (Contains-push f.all x))
+        (λ less. Contains-append_left f.all (x ∷ []) c ((f.each c).1 (l.0, less)))
+        l.1,
+  );
   many = omega (arith, length-append f.all (x ∷ []), f.many);
   first = ap (λ (zs : List (List ℕ)). take 500 (zs ++ x ∷ [])) f.first ∙ take_front 500 f.all (x ∷ []);
 }
@@ -68,10 +70,11 @@ pub found_next : (s : System) (t : Tunnel) (m : Margin) (x y : List ℕ) (n : �
 found_next s t m x y n configs f h = record {
   all = f.all;
   rising = f.rising;
-  each = λ c.
-      (λ b. let l = (f.each c).0 b in
-          (l.0, ⊎_elim (λ e. subst (λ (z : List ℕ). slice_cmp nat_cmp z y ≡ Less) (sym e) h.after) (λ less. transitive c x y less h.after) l.1),
-       λ l. (f.each c).1 (l.0, h.none_between c l.0.tunnel l.1));
+  each = λ c. (
+    λ b. let l = (f.each c).0 b in
+        (l.0, ⊎_elim (λ e. subst (λ (z : List ℕ). slice_cmp nat_cmp z y ≡ Less) (sym e) h.after) (λ less. transitive c x y less h.after) l.1),
+    λ l. (f.each c).1 (l.0, h.none_between c l.0.tunnel l.1),
+  );
   many = f.many;
   first = f.first;
 }
@@ -94,9 +97,9 @@ listings_one s t m one other a b =
 pub found_more : (s : System) (t : Tunnel) (m : Margin) (x : List ℕ) (n n' : ℕ) (configs configs' : List (List ℕ)) → Found s t m (Before x) n configs → IsInTunnel t x → Considered s m x n configs n' configs' → Found s t m (UpTo x) n' configs'
 found_more s t m x n n' configs configs' f b h =
     ⊎_elim
-        (λ meets. subst (λ (k : ℕ). Found s t m (UpTo x) k configs') (sym meets.1) (subst (λ (zs : List (List ℕ)). Found s t m (UpTo x) (n + 1) zs) (sym meets.2) (found_add s t m x n configs f b meets.0)))
-        (λ not. subst (λ (k : ℕ). Found s t m (UpTo x) k configs') (sym not.1) (subst (λ (zs : List (List ℕ)). Found s t m (UpTo x) n zs) (sym not.2) (found_skip s t m x n configs f not.0)))
-        h
+    (λ meets. subst (λ (k : ℕ). Found s t m (UpTo x) k configs') (sym meets.1) (subst (λ (zs : List (List ℕ)). Found s t m (UpTo x) (n + 1) zs) (sym meets.2) (found_add s t m x n configs f b meets.0)))
+    (λ not. subst (λ (k : ℕ). Found s t m (UpTo x) k configs') (sym not.1) (subst (λ (zs : List (List ℕ)). Found s t m (UpTo x) n zs) (sym not.2) (found_skip s t m x n configs f not.0)))
+    h
 
 pub considered_few : (s : System) (m : Margin) (x : List ℕ) (n n' : ℕ) (configs configs' : List (List ℕ)) → Considered s m x n configs n' configs' → n' ≤ n + 1
 considered_few s m x n n' configs configs' h = ⊎_elim (λ meets. omega (arith, meets.1)) (λ not. omega (arith, not.1)) h

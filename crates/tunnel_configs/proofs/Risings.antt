@@ -1,5 +1,5 @@
 -- Lists of configurations in rising order.
-use Rattle.std.proofs.Common.{◌≡◌, ℕ, zero, suc, ◌+◌, ◌<◌, ◌≤◌, List, [], ◌∷◌, ◌++◌, length, get_or, take, Contains, sym, ap, ◌∙◌, arith, refl, subst, ⊎_elim, ◌⊎◌, inl, inr, true≢false}
+use Rattle.std.proofs.Common.{◌≡◌, ℕ, zero, suc, List, [], ◌∷◌, ◌++◌, length, take, Contains, sym, ap, ◌∙◌, arith, refl, subst, ⊎_elim, ◌⊎◌, inl, inr, true≢false}
 use Rattle.std.specs.Cmp.Lexicographic.{slice_cmp}
 use Rattle.std.specs.List.{AllByRecursion}
 use Rattle.std.specs.List.Sorted.{IsStrictlySortedBy}
@@ -8,7 +8,6 @@ use Rattle.std.specs.declared.cmp.Ordering.{Ordering}
 use Rattle.std.specs.declared.cmp.Ordering.TheVariants.{Less, Equal, Greater}
 use Rattle.std.proofs.lemmas.Cmp.{nat_list_cmp_total}
 use Rattle.tunnel_configs.specs.Listed.{AreRising}
-use Rattle.tunnel_configs.proofs.Boxes.{less_not_greater}
 
 pub contains_cases : (x : List ℕ) (xs : List (List ℕ)) (c : List ℕ) → Contains (x ∷ xs) c → (x ≡ c) ⊎ Contains xs c
 contains_cases x xs c (zero, b, e) = inl e
@@ -69,19 +68,19 @@ transitive a b c = nat_list_cmp_total.trans a b c
 first_same : (a b : List ℕ) (xs ys : List (List ℕ)) → AreRising (a ∷ xs) → AreRising (b ∷ ys) → Contains (b ∷ ys) a → Contains (a ∷ xs) b → a ≡ b
 first_same a b xs ys s t h k =
     ⊎_elim
-        (λ e. sym e)
-        (λ later. ⊎_elim
-            (λ e. e)
-            (λ other. absurd (irreflexive a (transitive a b a (rising_first a xs s b other) (rising_first b ys t a later))))
-            (contains_cases a xs b k))
-        (contains_cases b ys a h)
+    (λ e. sym e)
+    (λ later. ⊎_elim
+    (λ e. e)
+    (λ other. absurd (irreflexive a (transitive a b a (rising_first a xs s b other) (rising_first b ys t a later))))
+    (contains_cases a xs b k))
+    (contains_cases b ys a h)
 
 rest_within : (a b : List ℕ) (xs ys : List (List ℕ)) → AreRising (a ∷ xs) → a ≡ b → ((c : List ℕ) → Contains (a ∷ xs) c → Contains (b ∷ ys) c) → (c : List ℕ) → Contains xs c → Contains ys c
 rest_within a b xs ys s e f c h =
     ⊎_elim
-        (λ same. absurd (irreflexive c (subst (λ (z : List ℕ). slice_cmp nat_cmp z c ≡ Less) (e ∙ same) (rising_first a xs s c h))))
-        (λ later. later)
-        (contains_cases b ys c (f c (contains_later a xs c h)))
+    (λ same. absurd (irreflexive c (subst (λ (z : List ℕ). slice_cmp nat_cmp z c ≡ Less) (e ∙ same) (rising_first a xs s c h))))
+    (λ later. later)
+    (contains_cases b ys c (f c (contains_later a xs c h)))
 
 -- two rising lists with the same members are one
 pub rising_is_one : (xs ys : List (List ℕ)) → AreRising xs → AreRising ys → ((c : List ℕ) → Contains xs c → Contains ys c) → ((c : List ℕ) → Contains ys c → Contains xs c) → xs ≡ ys

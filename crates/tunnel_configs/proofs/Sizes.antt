@@ -12,7 +12,7 @@ use Rattle.plant_data.specs.Tunnels.{IsTunnelOf}
 use Rattle.tunnel_configs.specs.Listed.{IsInTunnel}
 use Rattle.year_system.specs.Capacity.{no_group}
 use Rattle.year_system.specs.System.{Fits, IsSystem, System, greatest, size}
-use Rattle.year_system.proofs.Radix.{size_drop, size_pos}
+use Rattle.year_system.proofs.Radix.{size_drop}
 
 pub size_most : (ws gs : List ℕ) → length ws ≡ length gs → ((k : ℕ) → k < length gs → get_or ws k 0 ≤ get_or gs k 0) → size ws ≤ size gs
 size_most [] [] e h = omega arith
@@ -51,19 +51,19 @@ greatest_small s k v h =
     let thermal : length (map (λ (p : Plant). p.units) s.thermal) ≡ length s.thermal = length-map s.thermal (λ (p : Plant). p.units) in
     let groups : length (map (λ (g : Group). g.greatest) s.groups) ≡ length s.groups = length-map s.groups (λ (g : Group). g.greatest) in
     ⊎_elim
-        (λ front.
-            let at : get_or (greatest s) k 0 ≡ (get_or s.thermal k no_plant).units =
-            get_or-append (map (λ (p : Plant). p.units) s.thermal) (map (λ (g : Group). g.greatest) s.groups) 0 k (omega (arith, front, thermal)) ∙ get_or-map (λ (p : Plant). p.units) s.thermal k no_plant 0 front in
-            omega (arith, at, (v.thermal.1 k no_plant front).2.units))
-        (λ back.
-            let place : k ≡ length (map (λ (p : Plant). p.units) s.thermal) + (k - length s.thermal) = omega (arith, thermal, back) in
-            let within : k - length s.thermal < length s.groups = omega (arith, h, back, thermal, groups, length-append (map (λ (p : Plant). p.units) s.thermal) (map (λ (g : Group). g.greatest) s.groups)) in
-            let at : get_or (greatest s) k 0 ≡ (get_or s.groups (k - length s.thermal) no_group).greatest =
-            ap (λ i. get_or (greatest s) i 0) place
-            ∙ (get_or-append-add (map (λ (p : Plant). p.units) s.thermal) (map (λ (g : Group). g.greatest) s.groups) (k - length s.thermal) 0
-            ∙ get_or-map (λ (g : Group). g.greatest) s.groups (k - length s.thermal) no_group 0 within) in
-            omega (arith, at, (v.groups.1 (k - length s.thermal) no_group within).greatest))
-        (cases_lt k (length s.thermal))
+    (λ front.
+    let at : get_or (greatest s) k 0 ≡ (get_or s.thermal k no_plant).units =
+    get_or-append (map (λ (p : Plant). p.units) s.thermal) (map (λ (g : Group). g.greatest) s.groups) 0 k (omega (arith, front, thermal)) ∙ get_or-map (λ (p : Plant). p.units) s.thermal k no_plant 0 front in
+    omega (arith, at, (v.thermal.1 k no_plant front).2.units))
+    (λ back.
+    let place : k ≡ length (map (λ (p : Plant). p.units) s.thermal) + (k - length s.thermal) = omega (arith, thermal, back) in
+    let within : k - length s.thermal < length s.groups = omega (arith, h, back, thermal, groups, length-append (map (λ (p : Plant). p.units) s.thermal) (map (λ (g : Group). g.greatest) s.groups)) in
+    let at : get_or (greatest s) k 0 ≡ (get_or s.groups (k - length s.thermal) no_group).greatest =
+    ap (λ i. get_or (greatest s) i 0) place
+    ∙ (get_or-append-add (map (λ (p : Plant). p.units) s.thermal) (map (λ (g : Group). g.greatest) s.groups) (k - length s.thermal) 0
+    ∙ get_or-map (λ (g : Group). g.greatest) s.groups (k - length s.thermal) no_group 0 within) in
+    omega (arith, at, (v.groups.1 (k - length s.thermal) no_group within).greatest))
+    (cases_lt k (length s.thermal))
 
 pub tunnel_small : (s : System) (t : Tunnel) → IsSystem s → IsTunnelOf (greatest s) t → (k : ℕ) → k < length t.least → get_or t.least k 0 + get_or t.width k 0 ≤ 128
 tunnel_small s t v h k b =

@@ -17,6 +17,7 @@ pub enum ConfigsError {
     #[error("{0} configurations between the margins")]
     TooMany(u64),
 }
+
 impl From<AllocError> for ConfigsError {
     ghost from_gives = { λ _ e. e ≡ OutOfMemory };
 

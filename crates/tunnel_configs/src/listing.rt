@@ -122,5 +122,4 @@ pub fn configs(
 /// order, whatever made it.
 pub fn listings_are_one()
     ensures { ListingsAreOne }
-{
-}
+{}

@@ -29,12 +29,7 @@ fn critical_period(system: &YearSystem, loads: &[Load], config: &Config) -> usiz
 }
 
 /// Whether the installed capacity in the critical period lies between the margins.
-pub fn meets_margin(
-    system: &YearSystem,
-    loads: &[Load],
-    margin: &Margin,
-    config: &Config,
-) -> bool
+pub fn meets_margin(system: &YearSystem, loads: &[Load], margin: &Margin, config: &Config) -> bool
     requires fits { Fits system.now config.now }
     requires loads { loads.now ≡ system.now.loads }
     requires periods { 1 ≤ length loads.now }

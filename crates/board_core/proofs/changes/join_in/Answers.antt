@@ -1,4 +1,4 @@
-use Rattle.std.proofs.Common.{◌∙◌, sym}
+use Rattle.std.proofs.Common.{◌∙◌}
 use Rattle.board_core.proofs.Sets.{joins_ok, joins_err, shares_in}
 use Rattle.board_core.proofs.changes.join_in.Goals as goal
 

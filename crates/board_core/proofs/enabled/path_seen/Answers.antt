@@ -1,4 +1,4 @@
-use Rattle.std.proofs.Common.{◌≡◌, ℕ, ◌+◌, ◌-◌, ◌%◌, ◌^◌, Bool, true, false, ◌&&◌, List, sym, refl, ap, ◌∙◌, arith, subst}
+use Rattle.std.proofs.Common.{◌-◌, ◌&&◌, sym, ap, ◌∙◌, arith}
 use Rattle.board_core.specs.Machine.{path_seen}
 use Rattle.board_core.proofs.PathSeen.{path_step}
 use Rattle.board_core.proofs.enabled.path_seen.Goals as goal

@@ -1,4 +1,4 @@
-use Rattle.std.proofs.Common.{◌≡◌, ◌≢◌, ℕ, ◌+◌, ◌%◌, ◌^◌, ◌<◌, List, ◌∷◌, [], ◌++◌, length, true, sym, refl, ap, ◌∙◌, arith, subst}
+use Rattle.std.proofs.Common.{◌∷◌, [], ◌++◌, refl, arith}
 use Rattle.board_core.specs.Rows.{codes_of}
 use Rattle.board_core.specs.Start.{LaysRow}
 use Rattle.board_core.specs.Laid.{IsLaid}

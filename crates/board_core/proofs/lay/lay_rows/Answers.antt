@@ -1,4 +1,4 @@
-use Rattle.std.proofs.Common.{◌≡◌, ◌≢◌, ℕ, ◌+◌, ◌<◌, List, take, ◌∷◌, [], ◌++◌, length, sym, refl, arith, subst}
+use Rattle.std.proofs.Common.{List, take, arith, subst}
 use Rattle.board_core.specs.declared.row.KeptRow.{KeptRow}
 use Rattle.board_core.specs.Rows.{codes_of}
 use Rattle.board_core.specs.Start.{LaysRows}

@@ -1,4 +1,4 @@
-use Rattle.std.proofs.Common.{◌≡◌, ◌+◌, ◌∙◌, []}
+use Rattle.std.proofs.Common.{◌∙◌, []}
 use Rattle.std.proofs.lemmas.List.{get_or_default}
 use Rattle.plan_program.proofs.Forward.{with_way}
 use Rattle.plan_program.proofs.come.least_from.Goals as goal

@@ -1,4 +1,4 @@
-use Rattle.std.proofs.Common.{◌≡◌, ◌<◌, ◌≤◌, length, arith, subst}
+use Rattle.std.proofs.Common.{◌≡◌, length, arith, subst}
 use Rattle.plan_program.proofs.Least.{LeastSoFar, least_done, least_step}
 use Rattle.plan_program.proofs.solving.least_place.Goals as goal
 

@@ -1,8 +1,6 @@
-use Rattle.std.proofs.Common.{◌≡◌, ◌+◌, ◌-◌, ◌<◌, ◌≤◌, [], List, Option, ℕ, Some, None, length, get_or, arith, ◌∙◌, sym, ap, subst}
-use Rattle.std.specs.Option.{unwrap_or}
-use Rattle.plan_program.specs.Plans.{layer_at}
+use Rattle.std.proofs.Common.{◌≡◌, ◌+◌, ◌-◌, [], List, Option, ℕ, None, length, get_or, arith, subst}
 use Rattle.plan_program.specs.Steps.{IsLeastPlace}
-use Rattle.plan_program.proofs.Best.{Finishes, finished, infeasible_is, some_one}
+use Rattle.plan_program.proofs.Best.{finished, infeasible_is, some_one}
 use Rattle.plan_program.proofs.solving.outcome_of.Goals as goal
 
 pub returns-in-Some : goal.returns-in-Some

@@ -1,4 +1,4 @@
-use Rattle.std.proofs.Common.{◌≡◌, ◌<◌, ◌≤◌, ◌++◌, [], ◌∷◌, List, ℕ, length, arith, ◌∙◌, ap}
+use Rattle.std.proofs.Common.{◌≡◌, ◌<◌, ◌++◌, [], ◌∷◌, List, length, arith, ◌∙◌, ap}
 use Rattle.std.proofs.lemmas.List.{get_or_default}
 use Rattle.cost_terms.specs.declared.entries.Scored.{Scored}
 use Rattle.plan_program.specs.Plans.{entry_at, layer_at, no_entry}
@@ -17,4 +17,4 @@ returns n c =
     let pushed : c.push-2.new.self.items ≡ c.push_best.new.configs.items ++ (entry_at (layer_at t y) p).config ∷ [] =
     c.in_ok-push-2.ensures.items ∙ ap (λ (e : Scored). c.push_best.new.configs.items ++ e.config ∷ []) entry in
     told_more t c.args.come.now y p c.find_before-before.result c.push_best.new.configs.items c.push-2.new.self.items c.layer_of.ensures.valid c.requires.come (omega (arith, c.if-year-eq0.false)) c.requires.year c.requires.place
-        c.find_before-before.ensures c.in_ok-push_best.ensures pushed
+    c.find_before-before.ensures c.in_ok-push_best.ensures pushed

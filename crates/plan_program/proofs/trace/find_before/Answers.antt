@@ -1,4 +1,4 @@
-use Rattle.std.proofs.Common.{◌≡◌, ◌<◌, [], List, ℕ, length, get_or, arith, ◌∙◌, sym, ap, Option, None}
+use Rattle.std.proofs.Common.{◌≡◌, ◌<◌, List, ℕ, length, get_or, arith, ◌∙◌, sym, ap, Option, None}
 use Rattle.std.proofs.lemmas.List.{get_or_default}
 use Rattle.cost_terms.specs.declared.entries.Scored.{Scored}
 use Rattle.plan_program.specs.Plans.{entry_at, layer_at, no_entry}
@@ -28,4 +28,4 @@ predecessor-requires-clause-some c =
 pub returns : goal.returns
 returns c =
     before_there c.args.table.now c.args.come.now c.args.year c.args.place c.economy.result.now c.index-layer_of-place.result c.layer_of-layer.result.now c.costs_of-before.result.now c.in-Some.cost c.predecessor.result
-        (reads c.before) c.predecessor.ensures.within c.predecessor.ensures.leads c.predecessor.ensures.first
+    (reads c.before) c.predecessor.ensures.within c.predecessor.ensures.leads c.predecessor.ensures.first

@@ -1,4 +1,4 @@
-use Rattle.std.proofs.Common.{◌≡◌, ℕ, ◌<◌, sym, ap, subst, arith, ◌∙◌, List}
+use Rattle.std.proofs.Common.{◌≡◌, ℕ, sym, ap, subst, arith, ◌∙◌, List}
 use Rattle.board_core.specs.Rows.{words_of}
 use Rattle.board_core.specs.Trial.{same}
 use Rattle.board_core.specs.declared.row.Words.{Words}

@@ -1,4 +1,4 @@
-use Rattle.std.proofs.Common.{◌≡◌, ◌≢◌, ℕ, ◌+◌, List, [], ◌∷◌, ◌++◌, ◌⊎◌, length, ⊎_elim, sym, ap, ◌∙◌, subst, arith}
+use Rattle.std.proofs.Common.{◌≡◌, ◌+◌, [], ◌∷◌, ◌++◌, ⊎_elim, subst, arith}
 use Rattle.std.proofs.lemmas.Grind.{common_steps}
 use Rattle.board_core.specs.Lists.{IsIn}
 use Rattle.board_core.proofs.Lists.{is_in-append}

@@ -1,11 +1,8 @@
-use Rattle.std.proofs.Common.{◌≡◌, ℕ, ◌<◌, sym, ap, subst, refl, arith, ◌∙◌, List, [], Some, None}
-use Rattle.board_core.specs.declared.actor.Hand.{Hand}
+use Rattle.std.proofs.Common.{sym, ap, subst, refl, ◌∙◌, List, []}
 use Rattle.board_core.specs.declared.row.KeptRow.{KeptRow}
 use Rattle.board_core.specs.Lists.{IsIn}
 use Rattle.board_core.specs.Rows.{codes_of, due_word}
 use Rattle.board_core.specs.Trial.{same}
-use Rattle.sim_board.specs.Seats.{SeatIs}
-use Rattle.sim_board.specs.Trial.{OnTrial}
 use Rattle.sim_board.proofs.Starts.{codes_rows, due_rows}
 use Rattle.sim_board.proofs.tests.place_one.Goals as goal
 

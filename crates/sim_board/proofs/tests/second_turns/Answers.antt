@@ -1,4 +1,4 @@
-use Rattle.std.proofs.Common.{◌≡◌, ℕ, ◌<◌, sym, ap, subst, refl, arith, ◌∙◌, List, [], Some, None}
+use Rattle.std.proofs.Common.{sym, ap, subst, refl, ◌∙◌, List, []}
 use Rattle.board_core.specs.declared.row.KeptRow.{KeptRow}
 use Rattle.board_core.specs.Lists.{IsIn}
 use Rattle.board_core.specs.Rows.{codes_of, due_word}

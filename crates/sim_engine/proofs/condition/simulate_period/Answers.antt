@@ -2,9 +2,8 @@ use Rattle.std.proofs.Common.{◌≡◌, ℕ, ◌+◌, ◌-◌, ◌*◌, ◌/◌
 use Rattle.std.proofs.lemmas.List.{length-take}
 use Rattle.wasp_fixed.specs.declared.numbers.TheConstants.{M}
 use Rattle.plant_data.specs.declared.plant.Unit.{Unit as Machine}
-use Rattle.plant_data.specs.declared.shape.Load.{Load}
 use Rattle.loading_order.specs.declared.blocks.Block.{Block}
-use Rattle.year_system.specs.System.{greatest_peak, hours, thermal_mw}
+use Rattle.year_system.specs.System.{greatest_peak, thermal_mw}
 use Rattle.year_system.proofs.CellSteps.{cells_fit}
 use Rattle.load_curves.proofs.Ceilings.{ceiling-div_ceil}
 use Rattle.sim_engine.specs.Curves.{load_cells, no_load}

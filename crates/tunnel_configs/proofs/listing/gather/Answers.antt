@@ -1,5 +1,5 @@
-use Rattle.std.proofs.Common.{◌≡◌, ◌+◌, ◌<◌, ◌≤◌, [], length, take, arith, ◌∙◌, sym, ap, subst, refl, List, ℕ}
-use Rattle.tunnel_configs.proofs.Boxes.{from_box, least_in_box, left_least, left_pos}
+use Rattle.std.proofs.Common.{◌≡◌, length, arith, sym, ap, subst, refl, List, ℕ}
+use Rattle.tunnel_configs.proofs.Boxes.{from_box, least_in_box, left_least}
 use Rattle.tunnel_configs.proofs.Gathered.{Before, Found, UpTo, considered_few, found_all, found_few, found_more, found_next, found_none}
 use Rattle.tunnel_configs.proofs.Sizes.{tunnel_small}
 use Rattle.tunnel_configs.proofs.listing.gather.Goals as goal
@@ -22,8 +22,8 @@ pub returns-then-not-advance : goal.returns-then-not-advance
 returns-then-not-advance c =
     let kept = c.loop-count.invariant in
     found_all c.args.system.now c.args.tunnel.now c.args.margin.now c.loop-count.config c.in_ok-count.count c.consider.new.configs.items
-        (found_more c.args.system.now c.args.tunnel.now c.args.margin.now c.loop-count.config c.loop-count.count c.in_ok-count.count c.loop-count.configs.items c.consider.new.configs.items kept.found kept.tunnel c.in_ok-count.ensures)
-        (rw c.if-not-advance.true at c.advance.ensures.last refl)
+    (found_more c.args.system.now c.args.tunnel.now c.args.margin.now c.loop-count.config c.loop-count.count c.in_ok-count.count c.loop-count.configs.items c.consider.new.configs.items kept.found kept.tunnel c.in_ok-count.ensures)
+    (rw c.if-not-advance.true at c.advance.ensures.last refl)
 
 pub loop-count-preserved : goal.loop-count-preserved
 loop-count-preserved c =

@@ -1,4 +1,4 @@
-use Rattle.std.proofs.Common.{◌≡◌, ◌+◌, ◌≤◌, ◌++◌, [], ◌∷◌, length, take, arith, ◌∙◌, sym}
+use Rattle.std.proofs.Common.{◌++◌, [], ◌∷◌, arith, ◌∙◌, sym}
 use Rattle.std.proofs.lemmas.List.{take_all, length-append}
 use Rattle.tunnel_configs.proofs.Risings.{take_whole}
 use Rattle.tunnel_configs.proofs.listing.keep.Goals as goal
@@ -10,4 +10,4 @@ returns-then-len-eq-MAX_LISTED c =
 pub returns : goal.returns
 returns c =
     c.in_ok-push.ensures.items ∙ sym (take_all 500 (c.args.configs.now.items ++ c.args.config ∷ [])
-        (omega (arith, length-append c.args.configs.now.items (c.args.config ∷ []), c.if-len-eq-MAX_LISTED.false, c.len.ensures, c.requires)))
+    (omega (arith, length-append c.args.configs.now.items (c.args.config ∷ []), c.if-len-eq-MAX_LISTED.false, c.len.ensures, c.requires)))

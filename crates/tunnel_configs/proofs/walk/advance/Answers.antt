@@ -1,6 +1,6 @@
-use Rattle.std.proofs.Common.{◌≡◌, ℕ, List, ◌+◌, ◌<◌, length, get_or, arith, ◌∙◌, sym, ap}
+use Rattle.std.proofs.Common.{ℕ, List, ◌+◌, ◌<◌, length, get_or, arith, ◌∙◌, ap}
 use Rattle.std.proofs.lemmas.List.{get_or-set_same, get_or-set_other, length-set}
-use Rattle.tunnel_configs.proofs.Boxes.{Advanced, Grown, advanced, last_is}
+use Rattle.tunnel_configs.proofs.Boxes.{Grown, advanced, last_is}
 use Rattle.tunnel_configs.proofs.walk.advance.Goals.{After-reset_from}
 use Rattle.tunnel_configs.proofs.walk.advance.Goals as goal
 

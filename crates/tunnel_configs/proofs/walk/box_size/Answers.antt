@@ -1,6 +1,5 @@
-use Rattle.std.proofs.Common.{◌≡◌, ◌+◌, ◌-◌, ◌*◌, ◌≤◌, arith, ◌∙◌, sym, ap, drop}
-use Rattle.year_system.specs.System.{greatest, size}
-use Rattle.tunnel_configs.proofs.Sizes.{more_fits, one_more, tunnel_most}
+use Rattle.std.proofs.Common.{◌+◌, ◌-◌, ◌*◌, arith}
+use Rattle.tunnel_configs.proofs.Sizes.{more_fits, one_more}
 use Rattle.tunnel_configs.proofs.walk.box_size.Goals as goal
 
 pub overflow_mul-size : goal.overflow_mul-size

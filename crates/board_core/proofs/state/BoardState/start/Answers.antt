@@ -1,6 +1,3 @@
-use Rattle.std.proofs.Common.{◌≡◌, ◌≢◌, ℕ, ◌<◌, List, ◌∷◌, [], sym, refl, arith, subst, ap, ◌∙◌}
-use Rattle.board_core.specs.Rows.{codes_of}
-use Rattle.board_core.specs.Machine.{Machine, IsShaped, IsSoundMachine}
 use Rattle.board_core.proofs.Laying.{shaped_start, sound_start}
 use Rattle.board_core.proofs.state.BoardState.start.Goals as goal
 

@@ -1,4 +1,4 @@
-use Rattle.std.proofs.Common.{◌≢◌, sym, subst}
+use Rattle.std.proofs.Common.{◌≢◌, subst}
 use Rattle.std.specs.Prelude.{IfOk}
 use Rattle.board_core.specs.declared.event.Answer.TheVariants.{NotEnabled}
 use Rattle.board_core.specs.Machine.{Machine, machine_terms}

@@ -1,4 +1,4 @@
-use Rattle.std.proofs.Common.{◌≡◌, ◌∙◌, ◌≢◌, ℕ, ◌+◌, ◌<◌, ◌^◌, List, sym, subst, arith}
+use Rattle.std.proofs.Common.{◌+◌, ◌<◌, ◌^◌, List, sym, subst, arith}
 use Rattle.std.specs.Prelude.{slice_index_or}
 use Rattle.board_core.specs.declared.actor.Actor.{Actor}
 use Rattle.board_core.specs.Events.{spent}

@@ -1,6 +1,6 @@
-use Rattle.std.proofs.Common.{◌≡◌, ℕ, ◌<◌, length, sym, refl, ap, ◌∙◌, arith, subst, rules, true}
+use Rattle.std.proofs.Common.{◌≡◌, ◌<◌, length, ap, ◌∙◌, arith, true}
 use Rattle.board_core.specs.declared.slot.Slot.{Slot}
-use Rattle.board_core.specs.Machine.{Machine, IsShaped, slot_at, free_slot}
+use Rattle.board_core.specs.Machine.{Machine, free_slot}
 use Rattle.board_core.proofs.Machines.{shaped_actor, shaped_slot, same_default}
 use Rattle.board_core.proofs.store.Store.publish.Goals as goal
 
