@@ -14,9 +14,10 @@ use Rattle.plant_data.specs.Rows.{IsRow}
 use Rattle.plant_data.specs.declared.row.Row.{Row}
 use Rattle.sim_engine.specs.Engine.{Run, Tape, Tells}
 use Rattle.sim_engine.specs.Row.{row_of}
+use Rattle.sim_sweep.specs.Cases.{IsKept}
 use Rattle.sim_sweep.specs.Demands.{IsDemand, IsFilled, is_demanded, new_demands, run_in, runs_of}
 use Rattle.sim_sweep.specs.Filling.{Fills, Gains}
-use Rattle.sim_sweep.specs.Kept.{AreDue, CodesRise, IsDue, row_words, words_in}
+use Rattle.sim_sweep.specs.Kept.{AreDue, CodesRise, IsDue, row_words, words_in, words_row}
 use Rattle.sim_sweep.specs.Places.{IsGapFor}
 use Rattle.sim_sweep.specs.Told.{CanTell, GainsOnly, HasGained}
 use Rattle.sim_sweep.specs.declared.demand.Demand.{Demand}
@@ -174,3 +175,11 @@ pub count_more : (book : List System) (a b : List KeptRow) (ds : List Demand) (i
 count_more book a b ds i d n m o within read one first other =
     let e : length (new_demands a (take (i + 1) ds)) ≡ length (new_demands a (take i ds)) + length (new_demands b (d ∷ [])) = ap length (new_more book a b ds i d within read one) ∙ length-append _ _ in
     omega (arith, e, first, other)
+
+-- what is demanded is kept, within its bounds
+pub are_kept : (book : List System) (a b : List KeptRow) (ds : List Demand) → All (IsDemand book) ds → Fills book a b ds → All (IsKept b) ds
+are_kept book a b ds demands fills k d within =
+    let demand = demands k d within in
+    let found = fills.filled k d within demand.system demand.at in
+    let due = fills.due _ _ found in
+    record { words = row_words (row_of demand.system (get_or ds k d).config); kept = found; bounds = subst IsRow (ap words_row (sym due.is)) due.bounds }
