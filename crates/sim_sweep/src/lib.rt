@@ -25,5 +25,5 @@ pub use case::{CaseDone, CaseJob};
 pub use demand::Demand;
 pub use filling::fill;
 pub use kept::Kept;
-pub use laws::{due_rows_stand, new_codes_come_once};
+pub use laws::{due_rows_stand, new_codes_come_once, new_runs_come_once};
 pub use settling::settle_list;
