@@ -3,7 +3,7 @@ ghost use Rattle.std.specs.Cmp.Lexicographic.{slice_cmp};
 ghost use Rattle.std.specs.Ordering.{nat_cmp};
 ghost use Rattle.std.specs.declared.cmp.Ordering.TheVariants.{Less};
 ghost use Rattle.plant_data.specs.Rows.{IsRow};
-ghost use Rattle.cost_terms.specs.CostData.{IsEconomy, IsRow, IsThermalCost, greatest};
+ghost use Rattle.cost_terms.specs.CostData.{IsEconomy, IsThermalCost, greatest};
 ghost use Rattle.cost_terms.specs.Table.{IsEntry, Rises};
 
 use crate::{Outcome, Solved, solve};
