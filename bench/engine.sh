@@ -8,8 +8,9 @@ trap 'rm -rf "$work"' EXIT
 
 "$here/copy.sh" "$work" wasp_fixed plant_data year_system deck_lines convolution load_curves hydro_shave loading_order cost_terms deck_check sim_engine
 echo 'time_engine: plant_data year_system deck_lines deck_check sim_engine' >> "$work/crates.txt"
-mkdir -p "$work/crates/time_engine/src"
+mkdir -p "$work/crates/time_engine/src" "$work/crates/time_engine/proofs/time_rows"
 cp "$here/engine.rt.txt" "$work/crates/time_engine/src/main.rt"
+cp "$here/engine_invariants.antt.txt" "$work/crates/time_engine/proofs/time_rows/Invariants.antt"
 (cd "$work/crates/time_engine" && rt run) > "$work/log" 2>&1 || { tail -20 "$work/log" >&2; exit 1; }
 for turn in 1 2 3; do
     "$work/crates/time_engine/out/time_engine"

@@ -100,11 +100,11 @@ pub fn configs(
     requires low { margin.now.low ≤ 100000 }
     requires high { margin.now.high ≤ 100000 }
     ensures value { IfOk result (λ configs. IsListing system.now tunnel.now margin.now configs.items) }
-    ensures few { IfOk result (λ configs. length configs.items ≤ MAX_LISTED) }
-    ensures narrow { OnOk result (box_size tunnel.now ≤ MAX_BOX) }
-    ensures wide { (n : ℕ) → IsErrOf result (TooWide n) → (box_size tunnel.now ≡ n) × (MAX_BOX < n) }
-    ensures many { (n : ℕ) → IsErrOf result (TooMany n) → (MAX_LISTED < n) × HasListing system.now tunnel.now margin.now n }
-    ensures many_narrow { (n : ℕ) → IsErrOf result (TooMany n) → box_size tunnel.now ≤ MAX_BOX }
+    ensures few { IfOk result (λ configs. length configs.items ≤ 500) }
+    ensures narrow { OnOk result (box_size tunnel.now ≤ 1000000) }
+    ensures wide { (n : ℕ) → IsErrOf result (TooWide n) → (box_size tunnel.now ≡ n) × (1000000 < n) }
+    ensures many { (n : ℕ) → IsErrOf result (TooMany n) → (500 < n) × HasListing system.now tunnel.now margin.now n }
+    ensures many_narrow { (n : ℕ) → IsErrOf result (TooMany n) → box_size tunnel.now ≤ 1000000 }
 {
     let size = box_size(system, tunnel);
     if size > MAX_BOX {

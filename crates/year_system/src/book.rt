@@ -1,5 +1,5 @@
 //! The distinct systems of a run, by number, and the codes of keys.
-ghost use Rattle.std.specs.Prelude.{◌≡◌, ℕ, ◌+◌, ◌^◌, ◌<◌, ◌≤◌, ◌++◌, ◌↔◌, [], ◌∷◌, length, Contains, IfOk, OnErr, slice_get, Some, IfSome, IsTrue};
+ghost use Rattle.std.specs.Prelude.{◌≡◌, ◌≢◌, ℕ, ◌+◌, ◌^◌, ◌<◌, ◌≤◌, ◌++◌, ◌↔◌, [], ◌∷◌, length, All, AllPairs, Contains, IfOk, OnErr, slice_get, Some, IfSome, IsTrue};
 ghost use Rattle.year_system.specs.Code.{IsCode, code_of};
 ghost use Rattle.year_system.specs.System.{Fits, IsSystem};
 
@@ -45,6 +45,8 @@ impl Book {
     pub fn len(&self) -> u64
         ensures value { result ≡ length self.now }
         ensures small { result ≤ 2048 }
+        ensures valid { All IsSystem self.now }
+        ensures apart { AllPairs (λ s t. s ≢ t) self.now }
     {
         self.systems.len() as u64
     }

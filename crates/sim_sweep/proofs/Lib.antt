@@ -1,0 +1,7 @@
+mod CaseSteps
+mod CodeLaws
+mod DemandSteps
+mod FillSteps
+mod GasCase
+mod PlaceSteps
+mod RunLaws
