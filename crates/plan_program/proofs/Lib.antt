@@ -1,5 +1,5 @@
 mod Best
-mod Forward
+pub mod Forward
 mod Least
-mod Orders
-mod Ways
+pub mod Orders
+pub mod Ways

@@ -1,0 +1,12 @@
+pub mod Aligned
+pub mod Certified
+pub mod Claims
+pub mod Faults
+pub mod Forms
+pub mod Lines
+pub mod Marks
+pub mod Orders
+pub mod Readings
+pub mod Sound
+pub mod Walks
+pub mod Years

@@ -1,0 +1,7 @@
+use Rattle.std.proofs.Common.{◌≡◌, ℕ, ◌<◌}
+use Rattle.plan_program.specs.Plans.{entry_at}
+use Rattle.plan_certificate.specs.Steps.{name_at}
+use Rattle.plan_certificate.proofs.judging.same_names.Given as goal
+
+abbrev pub invariant-loop-i : goal.invariant-loop-i
+invariant-loop-i l = (i : ℕ) → i < l.i → (name_at l.names i).config ≡ (entry_at l.layer i).config
