@@ -1,0 +1,12 @@
+mod AskSteps
+mod CaseSteps
+mod DemandLists
+mod EachSteps
+mod FillKeys
+mod FollowSteps
+mod KeySteps
+mod ListSteps
+mod PlanSteps
+mod ResultSteps
+mod SettleSteps
+mod TellSteps

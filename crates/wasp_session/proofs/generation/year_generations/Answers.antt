@@ -1,0 +1,12 @@
+use Rattle.std.proofs.Common.{◌≡◌, ◌∙◌}
+use Rattle.deck_lines.specs.Deck.{body_of}
+use Rattle.sim_engine.specs.Generation.{generations}
+use Rattle.wasp_session.proofs.CaseSteps.{generations_are}
+use Rattle.wasp_session.proofs.ResultSteps.{if_ok1}
+use Rattle.wasp_session.proofs.generation.year_generations.Goals as goal
+
+pub returns-clause-value : goal.returns-clause-value
+returns-clause-value g c =
+    let energies : c.deref.result.now ≡ generations c.args.system.now c.args.config.now = c.deref.ensures.value ∙ c.detail.ensures.generations in
+    if_ok1 c.name_generations.result _ _ c.name_generations.ensures
+    (λ gs is. generations_are (body_of c.args.typed.now) c.args.year c.args.config.now c.args.system.now c.deref.result.now gs c.requires.system energies is)

@@ -1,0 +1,132 @@
+-- The report of a case of a deck: the table of its accepted configurations, the solution of this table, and the
+-- years of the chosen plan with their tunnels, terms, rows and generations. After the modules MERSIM, DYNPRO and
+-- REPROBAT of the IAEA's Computer Manual Series No. 16.
+use Rattle.std.specs.Prelude.{◌≡◌, ◌==◌, ℕ, ◌+◌, ◌-◌, ◌<◌, List, [], ◌∷◌, length, map, filter, nat_lt, Option, None, Some, slice_index, slice_index_or, if◌then◌else◌}
+use Rattle.std.specs.List.{filter_map, range_with_len}
+use Rattle.std.specs.Option.{option_map}
+use Rattle.cost_terms.specs.Cost.{build, fuel, nothing_built, salvage, stock, unserved, upkeep}
+use Rattle.cost_terms.specs.declared.entries.Scored.{Scored}
+use Rattle.cost_terms.specs.declared.prices.CostData.{CostData}
+use Rattle.cost_terms.specs.declared.terms.Built.{Built}
+use Rattle.cost_terms.specs.declared.terms.Ran.{Ran}
+use Rattle.cost_terms.specs.Table.{Table}
+use Rattle.deck_check.specs.Economy.{costs}
+use Rattle.deck_check.specs.Readings.{Says, greatest, system, version, weights, years}
+use Rattle.deck_check.specs.TypedDeck.{limit, name_of, tunnel}
+use Rattle.deck_check.specs.declared.names.PlantId.{PlantId}
+use Rattle.deck_check.specs.declared.names.PlantId.TheVariants as ids
+use Rattle.plan_program.specs.Chosen.{IsSolution}
+use Rattle.plan_program.specs.Plans.{layer_at}
+use Rattle.plant_data.specs.declared.plant.Plant.{Plant}
+use Rattle.plant_data.specs.declared.row.Limit.{Limit}
+use Rattle.report_text.specs.Report.{case_text, plan_of}
+use Rattle.report_text.specs.declared.data.CaseReport.{CaseReport}
+use Rattle.report_text.specs.declared.data.Generation.{Generation}
+use Rattle.report_text.specs.declared.data.PlanYear.{PlanYear}
+use Rattle.sim_engine.specs.Generation.{generations}
+use Rattle.sim_engine.specs.Row.{row_of}
+use Rattle.sim_sweep.specs.Cases.{is_accepted}
+use Rattle.wasp_session.specs.Listings.{IsListingOf}
+use Rattle.year_system.specs.Capacity.{no_group}
+use Rattle.year_system.specs.System.{System}
+
+-- what is read past the last plant
+abbrev pub no_plant : Plant
+no_plant = record { number = 0; units = 0; least = 0; full = 0; heat = 0; inc = 0; domestic = 0; foreign = 0; variable = 0; outage = 0; repair = 0 }
+
+-- ---- the table
+
+-- the accepted ones of some configurations of a system, each with its row, in their order
+abbrev pub accepted_of : System → Limit → List (List ℕ) → List Scored
+accepted_of s l configs = filter (λ e. is_accepted e.row l) (map (λ x. record { config = x; row = row_of s x }) configs)
+
+-- the accepted ones of the configurations that are listed for a case and year
+pub record IsLayerOf (d : Says) (c t : ℕ) (layer : List Scored) : Type 0 where
+  pub configs : List (List ℕ)
+  pub listing : IsListingOf d c t configs
+  pub is : layer ≡ accepted_of (system d t) (limit d c t) configs
+
+-- the economy of the deck with the layers of the case
+pub record IsTableOf (d : Says) (c : ℕ) (table : Table) : Type 0 where
+  pub economy : table.economy ≡ costs d
+  pub many : length table.layers ≡ years d
+  pub layers : (k : ℕ) → k < years d → IsLayerOf d c (k + 1) (layer_at table k)
+
+-- ---- what a planned year generates
+
+-- the existing plants with at least one unit, the thermal candidates and the hydro groups of a system, by their
+-- places in this order, counted from 0
+abbrev pub generator_at : System → ℕ → PlantId
+generator_at s k =
+    if nat_lt k (length s.existing) then ids.Existing (slice_index_or s.existing k no_plant).number else
+    if nat_lt k (length s.existing + length s.thermal) then ids.Thermal ((slice_index_or s.thermal (k - length s.existing) no_plant).number - 40) else
+    ids.Hydro (slice_index_or s.groups (k - length s.existing - length s.thermal) no_group).number
+
+-- how many units of each stand, or how many projects of a group
+abbrev pub standing_at : System → List ℕ → ℕ → ℕ
+standing_at s counts k =
+    if nat_lt k (length s.existing) then (slice_index_or s.existing k no_plant).units else
+    if nat_lt k (length s.existing + length s.thermal) then slice_index counts (k - length s.existing) else
+    (slice_index_or s.groups (k - length s.existing - length s.thermal) no_group).existing + slice_index counts (k - length s.existing)
+
+-- what one generates, by its name; nothing is told where nothing of it stands
+abbrev pub generation_of : Says → PlantId → ℕ → ℕ → Option Generation
+generation_of d id standing energy =
+    if standing == 0 then None else option_map (λ name. record { id = id; name = name; energy = energy }) (name_of d id)
+
+abbrev pub generation_at : Says → System → List ℕ → List ℕ → ℕ → Option Generation
+generation_at d s counts energies k = generation_of d (generator_at s k) (standing_at s counts k) (slice_index energies k)
+
+-- what the configuration of a year generates
+abbrev pub generations_of : Says → ℕ → List ℕ → List Generation
+generations_of d t counts =
+    let s = system d t in
+    filter_map (generation_at d s counts (generations s counts)) (range_with_len 0 (length s.existing + length s.thermal + length s.groups))
+
+-- ---- the chosen plan
+
+-- what the additions of a year cost, and what running it costs
+abbrev pub built_of : CostData → ℕ → List ℕ → List ℕ → Built
+built_of c t before after = record { build = build c t before after; salvage = salvage c t before after; stock = stock c t before after }
+
+abbrev pub ran_of : CostData → ℕ → PlanYear → Ran
+ran_of c t y = record { fuel = fuel c t y.row; upkeep = upkeep c t y.config y.row; unserved = unserved c t y.row }
+
+-- a planned year, behind the configuration of the year before
+pub record IsYearOf (d : Says) (c t : ℕ) (before : List ℕ) (y : PlanYear) : Type 0 where
+  pub tunnel : y.tunnel ≡ tunnel d c t
+  pub built : y.built ≡ built_of (costs d) t before y.config
+  pub ran : y.ran ≡ ran_of (costs d) t y
+  pub row : y.row ≡ row_of (system d t) y.config
+  pub generations : y.generations ≡ generations_of d t y.config
+
+-- the years from year t on
+abbrev pub AreYearsFrom : Says → ℕ → ℕ → List ℕ → List PlanYear → Type 0
+AreYearsFrom d c t before [] = Unit {0}
+AreYearsFrom d c t before (y ∷ ys) = IsYearOf d c t before y × AreYearsFrom d c (t + 1) y.config ys
+
+-- ---- the report
+
+-- how many conditions have their energy not served printed
+abbrev pub conditions_of : Says → ℕ
+conditions_of d = if version d == 1 then 0 else length (weights d)
+
+pub record IsReportOf (d : Says) (c : ℕ) (report : CaseReport) : Type 0 where
+  pub conditions : report.conditions ≡ conditions_of d
+  pub greatest : report.greatest ≡ greatest d
+  pub table : IsTableOf d c report.table
+  pub solution : IsSolution report.table report.solved
+  pub plan : map (λ y. y.config) report.years ≡ plan_of report.solved.outcome
+  pub years : AreYearsFrom d c 1 (nothing_built (costs d)) report.years
+
+-- a text, and how many CHOSEN lines it has
+pub record Told : Type 0 where
+  pub text : List ℕ
+  pub chosen : ℕ
+
+-- what is told of a case
+pub record IsCaseTold (d : Says) (c : ℕ) (told : Told) : Type 0 where
+  pub report : CaseReport
+  pub is_of : IsReportOf d c report
+  pub text : told.text ≡ case_text c report
+  pub chosen : told.chosen ≡ length report.years

@@ -1,0 +1,46 @@
+-- The keys that a script demands: year systems with configurations. A PLAN that is not refused demands those of
+-- all configurations that are listed for its cases and years. Each is simulated once in a run, whatever was
+-- edited between two PLANs, since the key has all the data of its year. This program's own.
+use Rattle.std.specs.Prelude.{◌≡◌, ◌≢◌, ℕ, ◌⊎◌, ◌↔◌, List, [], ◌∷◌, ◌++◌, Contains, AllPairs, length}
+use Rattle.deck_check.specs.Readings.{Says, system}
+use Rattle.deck_lines.specs.Deck.{deck_at}
+use Rattle.deck_lines.specs.declared.line.Line.{Line}
+use Rattle.deck_lines.specs.declared.line.Line.TheVariants as lines
+use Rattle.sim_engine.specs.Engine.{Run}
+use Rattle.wasp_session.specs.Listings.{IsListedOf, IsOf, IsTaken}
+
+-- a key of a deck: the system of a year with a configuration that is listed for a case and this year
+pub record IsKeyOf (d : Says) (key : Run) : Type 0 where
+  pub case : ℕ
+  pub year : ℕ
+  pub is_of : IsOf d case year
+  pub of_year : key.0 ≡ system d year
+  pub listed : IsListedOf d case year key.1
+
+-- a PLAN on the deck demands it
+abbrev pub Demands : Says → Run → Type 0
+Demands d key = IsTaken d × IsKeyOf d key
+
+-- a line demands it on a deck
+abbrev pub DemandsOn : Says → Line → Run → Type 0
+DemandsOn d lines.Plan key = Demands d key
+DemandsOn d _ key = ⊥
+
+-- lines behind others demand it, and the lines of a script
+abbrev pub IsDemandedAfter : List Line → List Line → Run → Type 0
+IsDemandedAfter before [] key = ⊥
+IsDemandedAfter before (line ∷ ls) key = DemandsOn (deck_at before) line key ⊎ IsDemandedAfter (before ++ line ∷ []) ls key
+
+abbrev pub IsDemandedBy : List Line → Run → Type 0
+IsDemandedBy ls key = IsDemandedAfter [] ls key
+
+-- the keys that the lines of a script demand, each once
+pub record AreKeys (ls : List Line) (keys : List Run) : Type 0 where
+  pub once : AllPairs (λ one other. one ≢ other) keys
+  pub each : (key : Run) → Contains keys key ↔ IsDemandedBy ls key
+
+-- so many keys
+pub record CountsKeys (ls : List Line) (n : ℕ) : Type 0 where
+  pub keys : List Run
+  pub are_keys : AreKeys ls keys
+  pub many : n ≡ length keys

@@ -1,0 +1,106 @@
+//! What the plants, candidates and groups of a planned year generate.
+ghost use Rattle.std.specs.Prelude.{◌≡◌, ℕ, ◌+◌, ◌-◌, ◌^◌, ◌<◌, ◌≤◌, ◌++◌, [], ◌∷◌, List, length, IfOk, OnOk, slice_index};
+ghost use Rattle.std.specs.List.{filter_map, range_with_len};
+ghost use Rattle.deck_check.specs.Readings as says;
+ghost use Rattle.deck_lines.specs.Deck.{body_of};
+ghost use Rattle.sim_engine.specs.Generation.{generations};
+ghost use Rattle.wasp_session.specs.Case.{generation_at, generation_of, generations_of, generator_at, standing_at};
+ghost use Rattle.year_system.specs.System.{Fits, cells, unit_limit};
+
+use deck_check::{PlantId, TypedDeck};
+use plant_data::{Config, Listed};
+use report_text::{Generation, Generations};
+use sim_engine::SimEngine;
+use std::alloc::Global;
+use wasp_fixed::OutOfMemory;
+use year_system::YearSystem;
+
+/// The plant, candidate or group at a place of a system, with its standing units or projects.
+fn generator(system: &YearSystem, config: &Config, k: usize) -> (PlantId, u64)
+    requires fits { Fits system.now config.now }
+    requires within { k < length system.now.existing + length system.now.thermal + length system.now.groups }
+    ensures id { result.0 ≡ generator_at system.now k }
+    ensures standing { result.1 ≡ standing_at system.now config.now k }
+{
+    let existing = system.existing();
+    let thermal = system.thermal();
+    if k < existing.len() {
+        return (PlantId::Existing(existing[k].number), existing[k].units);
+    }
+    let candidate = k - existing.len();
+    if candidate < thermal.len() {
+        return (PlantId::Thermal(thermal[candidate].number - 40), config.get(candidate));
+    }
+    let group = &system.groups()[candidate - thermal.len()];
+    (PlantId::Hydro(group.number), group.existing + config.get(candidate))
+}
+
+/// Adds what one generates, by its name, where anything of it stands.
+fn push_generation(
+    typed: &TypedDeck,
+    id: PlantId,
+    standing: u64,
+    energy: u64,
+    generations: &mut Vec<Generation>,
+) -> Result<(), OutOfMemory>
+    ensures { OnOk result (generations.new.items ≡ generations.old.items ++ filter_map (λ (k : ℕ). generation_of (body_of typed.now) id standing energy) (0 ∷ [])) }
+{
+    if standing == 0 {
+        return Ok(());
+    }
+    match typed.plant_name(id) {
+        Some(name) => {
+            generations.push(Generation { id, name, energy })?;
+            Ok(())
+        }
+        None => Ok(()),
+    }
+}
+
+/// The generations by their energies.
+fn name_generations(
+    alloc: Global,
+    typed: &TypedDeck,
+    system: &YearSystem,
+    config: &Config,
+    energies: &[u64],
+) -> Result<Generations, OutOfMemory>
+    requires fits { Fits system.now config.now }
+    requires places { length energies.now ≡ length system.now.existing + length system.now.thermal + length system.now.groups }
+    ensures { IfOk result (λ gs. gs ≡ filter_map (generation_at (body_of typed.now) system.now config.now energies.now) (range_with_len 0 (length energies.now))) }
+{
+    let mut generations = Vec::new(alloc);
+    for k in 0..energies.len() {
+        let (id, standing) = generator(system, config, k);
+        push_generation(typed, id, standing, energies[k], &mut generations)?;
+    }
+    Ok(Listed::new(generations))
+}
+
+/// What a configuration generates in a year, by a run of an engine with room for it.
+pub(crate) fn year_generations<E: SimEngine>(
+    alloc: Global,
+    typed: &TypedDeck,
+    system: &YearSystem,
+    year: u64,
+    config: &Config,
+    engine: &mut E,
+) -> Result<Generations, OutOfMemory>
+    requires system { system.now ≡ says.system (body_of typed.now) year }
+    requires fits { Fits system.now config.now }
+    requires cells { cells system.now ≤ (E.room engine.old).cells }
+    requires units { unit_limit system.now ≤ (E.room engine.old).units }
+    requires count { E.detailed engine.old < 2 ^ 64 - 1 }
+    ensures value { IfOk result (λ gs. gs ≡ generations_of (body_of typed.now) year config.now) }
+    ensures detailed { OnOk result (E.detailed engine.new ≡ E.detailed engine.old + 1) }
+    ensures cells_stay { (E.room engine.old).cells ≤ (E.room engine.new).cells }
+    ensures units_stay { (E.room engine.old).units ≤ (E.room engine.new).units }
+    ensures simulated { E.simulated engine.new ≡ E.simulated engine.old }
+    ensures runs { E.runs engine.new ≡ E.runs engine.old }
+    ensures tape { E.tape engine.new ≡ E.tape engine.old }
+{
+    let count = system.existing().len() + system.thermal().len() + system.groups().len();
+    let mut energies = vec![in alloc; 0u64; count]?;
+    engine.detail(system, config, energies.as_mut_slice());
+    name_generations(alloc, typed, system, config, &energies)
+}

@@ -1,0 +1,27 @@
+//! The deck, the book of systems and the kept rows of a run, line by line: what a script's lines say and do.
+//!
+//! A PLAN goes through the modules of the IAEA's Computer Manual Series No. 16 in their order: the fault table,
+//! CONGEN for each case and year, MERSIM for the keys that are new, DYNPRO for each case, REPROBAT for its report.
+//! It stands on `deck_check`, `tunnel_configs`, `sim_sweep` and `report_text`. The contract that the layers above
+//! use: a session that has gone through lines tells of the next one exactly what `specs` defines of the lines, and
+//! keeps the row of each key that they demand, each simulated once.
+//!
+//! The limits of 64 PLAN lines, and that rows are kept between them, are this program's own. A session that
+//! was in want of memory answers `OutOfMemory` from then on.
+#![tactic(auto)]
+
+mod command;
+mod demands;
+mod generation;
+mod interning;
+mod laws;
+mod listing;
+mod plan;
+mod planned;
+mod report;
+mod session;
+mod settling;
+
+pub use command::{Command, Step};
+pub use laws::telling_goes_on;
+pub use session::Session;

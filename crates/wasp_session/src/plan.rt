@@ -1,0 +1,228 @@
+//! What a PLAN line does.
+ghost use Rattle.std.specs.Prelude.{◌≡◌, ◌+◌, ◌*◌, ◌^◌, ◌<◌, ◌≤◌, All, Err, OnOk, length};
+ghost use Rattle.deck_check.specs.Readings as says;
+ghost use Rattle.deck_lines.specs.Deck.{body_of};
+ghost use Rattle.sim_sweep.specs.Demands.{IsFilled};
+ghost use Rattle.sim_sweep.specs.Kept.{AreDue};
+ghost use Rattle.wasp_session.specs.Case.{IsCaseTold};
+ghost use Rattle.wasp_session.specs.Keys.{Demands, IsKeyOf};
+ghost use Rattle.wasp_session.specs.Listings.{IsTaken};
+ghost use Rattle.wasp_session.specs.Said.{AreCasesTold, IsDeckTold, IsPlanTold, Tells};
+ghost use Rattle.wasp_session.specs.State.{AreOnes};
+ghost use Rattle.wasp_session.specs.Steps as spec;
+ghost use Rattle.wasp_session.specs.Steps.{AreCaseLists, AreSystems, AreYearLists, HasGrown, HasYearRoom, HasYears, Simulates};
+
+use crate::demands::all_demands;
+use crate::interning::{intern_all, room_for};
+use crate::listing::{ListError, YearLists, list_cases, systems_of};
+use crate::report::report_case;
+use crate::settling::settle_case;
+use deck_check::{CheckError, TypedDeck, check};
+use deck_lines::Deck;
+use plant_data::{Config, Listed};
+use report_text::{Refusal, write_case, write_heading, write_refusal};
+use sim_engine::SimEngine;
+use sim_sweep::{Kept, fill, new_codes_come_once};
+use std::alloc::Global;
+use wasp_fixed::OutOfMemory;
+use year_system::{Book, YearSystem};
+
+/// Settles a case, and tells it.
+fn tell_case<E: SimEngine>(
+    alloc: Global,
+    typed: &TypedDeck,
+    book: &Book,
+    ids: &[u64],
+    kept: &Kept,
+    case: u64,
+    lists: &[Listed<Config>],
+    engine: &mut E,
+    text: &mut Vec<u8>,
+) -> Result<(), OutOfMemory>
+    requires low { 1 ≤ case }
+    requires high { case ≤ says.cases (body_of typed.now) }
+    requires numbers { HasYears (body_of typed.now) book.now ids.now }
+    requires lists { AreYearLists (body_of typed.now) case lists.now }
+    requires due { AreDue book.now kept.now }
+    requires filled { All (All (IsFilled book.now kept.now)) (spec.case_demands book.now ids.now lists.now) }
+    requires room { HasYearRoom (body_of typed.now) (E.room engine.old) }
+    requires count { E.detailed engine.old + 30 < 2 ^ 64 - 1 }
+    ensures told { OnOk result (Tells (IsCaseTold (body_of typed.now) case) text.old.items text.new.items (E.detailed engine.old) (E.detailed engine.new)) }
+    ensures few { OnOk result (E.detailed engine.new ≤ E.detailed engine.old + 30) }
+    ensures cells_stay { (E.room engine.old).cells ≤ (E.room engine.new).cells }
+    ensures units_stay { (E.room engine.old).units ≤ (E.room engine.new).units }
+    ensures simulated { E.simulated engine.new ≡ E.simulated engine.old }
+    ensures runs { E.runs engine.new ≡ E.runs engine.old }
+    ensures tape { E.tape engine.new ≡ E.tape engine.old }
+{
+    let done = settle_case(alloc, typed, book, ids, kept, case, lists)?;
+    let report = report_case(alloc, typed, book, ids, case, done, engine)?;
+    write_case(case, &report, text)
+}
+
+/// Settles each case, and tells it.
+fn tell_cases<E: SimEngine>(
+    alloc: Global,
+    typed: &TypedDeck,
+    book: &Book,
+    ids: &[u64],
+    kept: &Kept,
+    cases: &[YearLists],
+    engine: &mut E,
+    text: &mut Vec<u8>,
+) -> Result<(), OutOfMemory>
+    requires numbers { HasYears (body_of typed.now) book.now ids.now }
+    requires lists { AreCaseLists (body_of typed.now) cases.now }
+    requires due { AreDue book.now kept.now }
+    requires filled { All (λ lists. All (All (IsFilled book.now kept.now)) (spec.case_demands book.now ids.now lists)) cases.now }
+    requires room { HasYearRoom (body_of typed.now) (E.room engine.old) }
+    requires count { E.detailed engine.old + 240 < 2 ^ 64 - 1 }
+    ensures told { OnOk result (Tells (AreCasesTold (body_of typed.now) (says.cases (body_of typed.now))) text.old.items text.new.items (E.detailed engine.old) (E.detailed engine.new)) }
+    ensures few { OnOk result (E.detailed engine.new ≤ E.detailed engine.old + 240) }
+    ensures simulated { E.simulated engine.new ≡ E.simulated engine.old }
+    ensures runs { E.runs engine.new ≡ E.runs engine.old }
+    ensures tape { E.tape engine.new ≡ E.tape engine.old }
+{
+    // Its reading tells the proof that there are at most 8 cases.
+    let _cases = typed.cases();
+    for c in 0..cases.len() {
+        tell_case(alloc, typed, book, ids, kept, c as u64 + 1, cases[c].as_slice(), engine, text)?;
+    }
+    Ok(())
+}
+
+/// Keeps the row of each key that the cases demand. The ones that are not kept are simulated, each once.
+fn fill_keys<E: SimEngine>(
+    alloc: Global,
+    typed: &TypedDeck,
+    book: &Book,
+    ids: &[u64],
+    cases: &[YearLists],
+    kept: &mut Kept,
+    engine: &mut E,
+) -> Result<(), OutOfMemory>
+    requires due { AreDue book.now kept.old }
+    requires ones { AreOnes book.now }
+    requires numbers { HasYears (body_of typed.now) book.now ids.now }
+    requires lists { AreCaseLists (body_of typed.now) cases.now }
+    requires room { HasYearRoom (body_of typed.now) (E.room engine.old) }
+    requires count { E.simulated engine.old + 120000 < 2 ^ 64 - 1 }
+    ensures filled { OnOk result (All (λ lists. All (All (IsFilled book.now kept.new)) (spec.case_demands book.now ids.now lists)) cases.now) }
+    ensures keys { OnOk result (Simulates (IsKeyOf (body_of typed.now)) book.now kept.old book.now kept.new (E.simulated engine.old) (E.simulated engine.new) (E.tape engine.old) (E.runs engine.old) (E.runs engine.new)) }
+    ensures due { AreDue book.now kept.new }
+    ensures few { length kept.new ≤ length kept.old + 120000 }
+    ensures detailed { E.detailed engine.new ≡ E.detailed engine.old }
+    ensures tape { E.tape engine.new ≡ E.tape engine.old }
+    ensures cells_stay { (E.room engine.old).cells ≤ (E.room engine.new).cells }
+    ensures units_stay { (E.room engine.old).units ≤ (E.room engine.new).units }
+{
+    // Their readings tell the proof that there are at most 8 cases and 30 years, and that each system is one.
+    let _cases = typed.cases();
+    let _years = typed.years();
+    let _systems = book.len();
+    new_codes_come_once();
+    let demands = all_demands(alloc, book, ids, cases)?;
+    fill(kept, engine, book, &demands)
+}
+
+/// Keeps the rows of a deck that is not refused, and tells its cases.
+fn plan_taken<E: SimEngine>(
+    alloc: Global,
+    typed: &TypedDeck,
+    systems: Vec<YearSystem>,
+    cases: &[YearLists],
+    book: &mut Book,
+    kept: &mut Kept,
+    engine: &mut E,
+    text: &mut Vec<u8>,
+) -> Result<(), OutOfMemory>
+    requires due { AreDue book.old kept.old }
+    requires ones { AreOnes book.old }
+    requires systems { AreSystems (body_of typed.now) systems.items }
+    requires lists { AreCaseLists (body_of typed.now) cases.now }
+    requires systems_left { length book.old + 30 ≤ 2048 }
+    requires simulated_left { E.simulated engine.old + 120000 < 2 ^ 64 - 1 }
+    requires detailed_left { E.detailed engine.old + 240 < 2 ^ 64 - 1 }
+    ensures told { OnOk result (Tells (AreCasesTold (body_of typed.now) (says.cases (body_of typed.now))) text.old.items text.new.items (E.detailed engine.old) (E.detailed engine.new)) }
+    ensures keys { OnOk result (Simulates (IsKeyOf (body_of typed.now)) book.old kept.old book.new kept.new (E.simulated engine.old) (E.simulated engine.new) (E.tape engine.old) (E.runs engine.old) (E.runs engine.new)) }
+    ensures due { AreDue book.new kept.new }
+    ensures ones { AreOnes book.new }
+    ensures grown { HasGrown book.old book.new 30 }
+    ensures few { length kept.new ≤ length kept.old + 120000 }
+    ensures years { OnOk result (E.detailed engine.new ≤ E.detailed engine.old + 240) }
+    ensures tape { E.tape engine.new ≡ E.tape engine.old }
+{
+    // Its reading tells the proof that there are at most 30 years.
+    let _years = typed.years();
+    let (cells, units) = room_for(&systems);
+    let mut ids = Vec::new(alloc);
+    intern_all(book, systems, &mut ids)?;
+    engine.ready(cells, units)?;
+    fill_keys(alloc, typed, book, &ids, cases, kept, engine)?;
+    tell_cases(alloc, typed, book, &ids, kept, cases, engine, text)
+}
+
+/// Plans a deck without a fault, or tells the first case and year over a limit.
+fn plan_typed<E: SimEngine>(
+    alloc: Global,
+    typed: &TypedDeck,
+    book: &mut Book,
+    kept: &mut Kept,
+    engine: &mut E,
+    text: &mut Vec<u8>,
+) -> Result<(), OutOfMemory>
+    requires due { AreDue book.old kept.old }
+    requires ones { AreOnes book.old }
+    requires systems_left { length book.old + 30 ≤ 2048 }
+    requires simulated_left { E.simulated engine.old + 120000 < 2 ^ 64 - 1 }
+    requires detailed_left { E.detailed engine.old + 240 < 2 ^ 64 - 1 }
+    ensures told { OnOk result (Tells (IsDeckTold (body_of typed.now)) text.old.items text.new.items (E.detailed engine.old) (E.detailed engine.new)) }
+    ensures keys { OnOk result (Simulates (Demands (body_of typed.now)) book.old kept.old book.new kept.new (E.simulated engine.old) (E.simulated engine.new) (E.tape engine.old) (E.runs engine.old) (E.runs engine.new)) }
+    ensures refused { OnOk result ((IsTaken (body_of typed.now) → ⊥) → (book.new ≡ book.old) × (kept.new ≡ kept.old)) }
+    ensures due { AreDue book.new kept.new }
+    ensures ones { AreOnes book.new }
+    ensures grown { HasGrown book.old book.new 30 }
+    ensures few { length kept.new ≤ length kept.old + 120000 }
+    ensures years { OnOk result (E.detailed engine.new ≤ E.detailed engine.old + 240) }
+    ensures tape { E.tape engine.new ≡ E.tape engine.old }
+{
+    let systems = systems_of(alloc, typed)?;
+    match list_cases(alloc, typed, &systems) {
+        Ok(cases) => plan_taken(alloc, typed, systems, &cases, book, kept, engine, text),
+        Err(ListError::OutOfMemory) => Err(OutOfMemory),
+        Err(ListError::Over(refusal)) => write_refusal(&refusal, text),
+    }
+}
+
+/// Plans a deck as the PLAN line of a number: its heading, and its refusal or the reports of its cases.
+pub(crate) fn plan_deck<E: SimEngine>(
+    alloc: Global,
+    deck: &Deck,
+    number: u64,
+    book: &mut Book,
+    kept: &mut Kept,
+    engine: &mut E,
+    text: &mut Vec<u8>,
+) -> Result<(), OutOfMemory>
+    requires due { AreDue book.old kept.old }
+    requires ones { AreOnes book.old }
+    requires systems_left { length book.old + 30 ≤ 2048 }
+    requires simulated_left { E.simulated engine.old + 120000 < 2 ^ 64 - 1 }
+    requires detailed_left { E.detailed engine.old + 240 < 2 ^ 64 - 1 }
+    ensures told { OnOk result (Tells (IsPlanTold (body_of deck.now) number) text.old.items text.new.items (E.detailed engine.old) (E.detailed engine.new)) }
+    ensures keys { OnOk result (Simulates (Demands (body_of deck.now)) book.old kept.old book.new kept.new (E.simulated engine.old) (E.simulated engine.new) (E.tape engine.old) (E.runs engine.old) (E.runs engine.new)) }
+    ensures refused { OnOk result ((IsTaken (body_of deck.now) → ⊥) → (book.new ≡ book.old) × (kept.new ≡ kept.old)) }
+    ensures due { AreDue book.new kept.new }
+    ensures ones { AreOnes book.new }
+    ensures grown { HasGrown book.old book.new 30 }
+    ensures few { length kept.new ≤ length kept.old + 120000 }
+    ensures years { OnOk result (E.detailed engine.new ≤ E.detailed engine.old + 240) }
+    ensures tape { E.tape engine.new ≡ E.tape engine.old }
+{
+    write_heading(number, text)?;
+    match check(deck) {
+        Ok(typed) => plan_typed(alloc, &typed, book, kept, engine, text),
+        Err(CheckError::OutOfMemory) => Err(OutOfMemory),
+        Err(CheckError::Fault(fault)) => write_refusal(&Refusal::Deck(fault), text),
+    }
+}
