@@ -10,3 +10,4 @@ mod PlanSteps
 mod ResultSteps
 mod SettleSteps
 mod TellSteps
+mod YearSteps

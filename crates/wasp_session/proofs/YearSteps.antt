@@ -1,0 +1,52 @@
+-- A year of a chosen plan: what a run writes, the system of the year, and what fits it.
+use Rattle.std.proofs.Common.{◌≡◌, ◌∙◌, ap, sym, subst, ℕ, ◌+◌, ◌<◌, ◌≤◌, List, [], ◌∷◌, ◌++◌, Some, length, map, take, drop, get_or, slice_get, arith}
+use Rattle.std.proofs.lemmas.List.{append-nil, drop_all, length-map, length-take-le, map-append, take_all, take_more}
+use Rattle.std.proofs.lemmas.Option.{same_Some, slice_get-get_or, slice_get_within}
+use Rattle.cost_terms.specs.CostData.{Fits as FitsCosts, greatest as candidate_counts}
+use Rattle.cost_terms.specs.declared.prices.CostData.{CostData}
+use Rattle.deck_check.specs.Readings as says
+use Rattle.deck_check.specs.Readings.{Says, system, years}
+use Rattle.plant_data.specs.Configs.{IsAtMost}
+use Rattle.report_text.specs.declared.data.PlanYear.{PlanYear}
+use Rattle.sim_engine.specs.Engine.{Room}
+use Rattle.wasp_session.specs.Steps.{HasRoom, HasYearRoom, HasYears, IsYearSystem}
+use Rattle.year_system.specs.System.{Fits, System, greatest}
+
+-- what is written over all of a vector is what it has
+pub written_over : {X : Type 0} (new was : List X) (n : ℕ) → length new ≡ length was → n ≡ length was → take n (new ++ drop (length new) was) ≡ new
+written_over new was n same all =
+    ap (λ ys. take n (new ++ ys)) (drop_all (length new) was (omega (arith, same))) ∙ (ap (take n) (append-nil new) ∙ take_all n new (omega (arith, same, all)))
+
+-- what is within the candidates of the costs fits the system of a year
+pub fits_year : (d : Says) (t : ℕ) (s : System) (e : CostData) (counts : List ℕ) → IsYearSystem d t s → candidate_counts e ≡ says.greatest d → FitsCosts e counts → Fits s counts
+fits_year d t s e counts is width fits =
+    let same : candidate_counts e ≡ greatest s = width ∙ sym is.width in
+    record { width = fits.width ∙ ap length same; most = subst (IsAtMost counts) same fits.most }
+
+-- the number of a year's system is one of the book's
+pub number_within : (d : Says) (book : List System) (ids : List ℕ) (k : ℕ) → HasYears d book ids → k < years d → get_or ids k 0 < length book
+number_within d book ids k has within =
+    slice_get_within book (get_or ids k 0) (system d (k + 1)) (has.each k (get_or ids k 0) (slice_get-get_or ids k 0 (omega (arith, within, has.many))))
+
+pub year_system_is : (d : Says) (book : List System) (ids : List ℕ) (k : ℕ) (s : System) → HasYears d book ids → k < years d → slice_get book (get_or ids k 0) ≡ Some s → IsYearSystem d (k + 1) s
+year_system_is d book ids k s has within at =
+    let there = has.each k (get_or ids k 0) (slice_get-get_or ids k 0 (omega (arith, within, has.many))) in
+    let same : s ≡ system d (k + 1) = same_Some s (system d (k + 1)) (sym at ∙ there) in
+    record { is = same; width = subst (λ (z : System). greatest z ≡ says.greatest d) (sym same) (has.width k within) }
+
+-- room for the years is room for one of them
+pub year_room_is : (d : Says) (k cells_room units_room : ℕ) (room : Room) (s : System) → HasYearRoom d room → k < years d → IsYearSystem d (k + 1) s
+    → room.cells ≤ cells_room → room.units ≤ units_room → HasRoom cells_room units_room s
+year_room_is d k cells_room units_room room s has within year cells_stay units_stay =
+    let one : HasRoom room.cells room.units s = subst (HasRoom room.cells room.units) (sym year.is) (has k within) in
+    record { cells = omega (arith, one.cells, cells_stay); units = omega (arith, one.units, units_stay) }
+
+-- the configurations of the years, and one more
+pub configs_more : (ys : List PlanYear) (y : PlanYear) (xs : List (List ℕ)) (k : ℕ) → k < length xs → map (λ (z : PlanYear). z.config) ys ≡ take k xs → y.config ≡ get_or xs k []
+    → map (λ (z : PlanYear). z.config) (ys ++ y ∷ []) ≡ take (k + 1) xs
+configs_more ys y xs k within so_far is =
+    map-append (λ (z : PlanYear). z.config) ys (y ∷ []) ∙ ap (λ (zs : List (List ℕ)). zs ++ y.config ∷ []) so_far ∙ ap (λ (x : List ℕ). take k xs ++ x ∷ []) is ∙ sym (take_more xs k [] within)
+
+-- how many years there are
+pub years_long : (ys : List PlanYear) (xs : List (List ℕ)) (k : ℕ) → k ≤ length xs → map (λ (z : PlanYear). z.config) ys ≡ take k xs → length ys ≡ k
+years_long ys xs k within so_far = sym (length-map ys (λ (z : PlanYear). z.config)) ∙ ap length so_far ∙ length-take-le k xs within
