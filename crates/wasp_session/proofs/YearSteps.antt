@@ -1,15 +1,20 @@
 -- A year of a chosen plan: what a run writes, the system of the year, and what fits it.
-use Rattle.std.proofs.Common.{◌≡◌, ◌∙◌, ap, sym, subst, ℕ, ◌+◌, ◌<◌, ◌≤◌, List, [], ◌∷◌, ◌++◌, Some, length, map, take, drop, get_or, slice_get, arith}
-use Rattle.std.proofs.lemmas.List.{append-nil, drop_all, length-map, length-take-le, map-append, take_all, take_more}
+use Rattle.std.proofs.Common.{◌≡◌, ◌∙◌, ap, sym, subst, ℕ, ◌+◌, ◌<◌, ◌≤◌, List, [], ◌∷◌, ◌++◌, Some, add-one, length, map, take, drop, get_or, slice_get, arith}
+use Rattle.std.proofs.lemmas.List.{append-nil, drop_all, get_or_default, length-map, length-take-le, map-append, take_all, take_more}
 use Rattle.std.proofs.lemmas.Option.{same_Some, slice_get-get_or, slice_get_within}
 use Rattle.cost_terms.specs.CostData.{Fits as FitsCosts, greatest as candidate_counts}
+use Rattle.cost_terms.specs.Table.{Table}
+use Rattle.cost_terms.specs.declared.entries.Scored.{Scored}
 use Rattle.cost_terms.specs.declared.prices.CostData.{CostData}
 use Rattle.deck_check.specs.Readings as says
 use Rattle.deck_check.specs.Readings.{Says, system, years}
+use Rattle.plan_program.specs.Chosen.{IsPlanOf}
+use Rattle.plan_program.specs.Plans.{layer_at}
 use Rattle.plant_data.specs.Configs.{IsAtMost}
 use Rattle.report_text.specs.declared.data.PlanYear.{PlanYear}
 use Rattle.sim_engine.specs.Engine.{Room}
-use Rattle.wasp_session.specs.Steps.{HasRoom, HasYearRoom, HasYears, IsYearSystem}
+use Rattle.wasp_session.proofs.PlanSteps.{before_at, last_more, last_of, place_is}
+use Rattle.wasp_session.specs.Steps.{HasPlace, HasRoom, HasYearRoom, HasYears, IsPlaced, IsYearSystem}
 use Rattle.year_system.specs.System.{Fits, System, greatest}
 
 -- what is written over all of a vector is what it has
@@ -50,3 +55,23 @@ configs_more ys y xs k within so_far is =
 -- how many years there are
 pub years_long : (ys : List PlanYear) (xs : List (List ℕ)) (k : ℕ) → k ≤ length xs → map (λ (z : PlanYear). z.config) ys ≡ take k xs → length ys ≡ k
 years_long ys xs k within so_far = sym (length-map ys (λ (z : PlanYear). z.config)) ∙ ap length so_far ∙ length-take-le k xs within
+
+-- what is read at a place
+pub read_at : {X : Type 0} (xs ys : List X) (k : ℕ) (x d : X) → ys ≡ xs → k < length xs → x ≡ get_or ys k x → x ≡ get_or xs k d
+read_at xs ys k x d same within at = at ∙ ap (λ zs. get_or zs k x) same ∙ get_or_default xs k x d within
+
+-- the layer of a year has the year's configuration
+pub year_place : (table : Table) (shown : List (List ℕ)) (total k : ℕ) (layer : List Scored) (counts : List ℕ) → IsPlanOf table shown total → k < length shown
+    → layer ≡ layer_at table k → counts ≡ get_or shown k [] → HasPlace layer counts
+year_place table shown total k layer counts is within same at =
+    subst (λ (es : List Scored). HasPlace es counts) (sym same) (subst (HasPlace (layer_at table k)) (sym at) (place_is table shown total k is within))
+
+pub placed_in : (table : Table) (k : ℕ) (layer : List Scored) (counts : List ℕ) (e : Scored) → layer ≡ layer_at table k → IsPlaced layer counts e → IsPlaced (layer_at table k) counts e
+placed_in table k layer counts e same is = subst (λ (es : List Scored). IsPlaced es counts e) same is
+
+-- what stands before the next year
+pub before_more : (start : List ℕ) (xs : List (List ℕ)) (k : ℕ) (x : List ℕ) → x ≡ get_or xs k [] → x ≡ before_at start xs (k + 1)
+before_more start xs k x at = at ∙ ap (before_at start xs) (sym (add-one k))
+
+pub last_is : (start : List ℕ) (ys : List PlanYear) (y : PlanYear) (x : List ℕ) → x ≡ y.config → x ≡ last_of start (ys ++ y ∷ [])
+last_is start ys y x same = same ∙ sym (last_more start ys y)
