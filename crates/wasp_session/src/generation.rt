@@ -29,10 +29,16 @@ fn generator(system: &YearSystem, config: &Config, k: usize) -> (PlantId, u64)
     }
     let candidate = k - existing.len();
     if candidate < thermal.len() {
-        return (PlantId::Thermal(thermal[candidate].number - 40), config.get(candidate));
+        return (
+            PlantId::Thermal(thermal[candidate].number - 40),
+            config.get(candidate),
+        );
     }
     let group = &system.groups()[candidate - thermal.len()];
-    (PlantId::Hydro(group.number), group.existing + config.get(candidate))
+    (
+        PlantId::Hydro(group.number),
+        group.existing + config.get(candidate),
+    )
 }
 
 /// Adds what one generates, by its name, where anything of it stands.

@@ -117,7 +117,17 @@ pub(crate) fn plan_years<E: SimEngine>(
     for k in 0..configs.len() {
         let entry = entry_in(layers[k].entries(), &configs[k]);
         let system = book.get(ids[k]);
-        years.push(plan_year(alloc, typed, economy, system, case, k as u64 + 1, &before, &entry, engine)?)?;
+        years.push(plan_year(
+            alloc,
+            typed,
+            economy,
+            system,
+            case,
+            k as u64 + 1,
+            &before,
+            &entry,
+            engine,
+        )?)?;
         before = configs[k];
     }
     Ok(Listed::new(years))

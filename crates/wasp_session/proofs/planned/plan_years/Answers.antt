@@ -1,4 +1,4 @@
-use Rattle.std.proofs.Common.{◌≡◌, ◌∙◌, ap, refl, sym, subst, ℕ, ◌+◌, ◌<◌, ◌≤◌, List, [], ◌∷◌, ◌++◌, length, get_or, arith}
+use Rattle.std.proofs.Common.{◌≡◌, ◌∙◌, ap, refl, sym, subst, ℕ, ◌+◌, ◌<◌, List, [], length, get_or, arith}
 use Rattle.std.proofs.lemmas.List.Elements.{All-push}
 use Rattle.cost_terms.specs.Cost.{nothing_built}
 use Rattle.cost_terms.specs.CostData.{Fits}
@@ -7,7 +7,6 @@ use Rattle.cost_terms.specs.declared.prices.CostData.{CostData}
 use Rattle.deck_check.specs.Economy.{costs}
 use Rattle.deck_check.specs.Readings.{greatest, years}
 use Rattle.deck_lines.specs.Deck.{body_of}
-use Rattle.plan_program.specs.Plans.{layer_at}
 use Rattle.plant_data.specs.Configs.{IsAtMost}
 use Rattle.report_text.specs.Report.{HasWidths}
 use Rattle.sim_engine.specs.Row.{row_of}
@@ -43,7 +42,7 @@ plan_year-requires-clause-entry g c κs w =
     let k = c.loop-k.k in
     let in_layers : k < length t.layers = omega (arith, c.loop-k-test.true, length_is t c.args.configs.now c.requires.chosen.0 c.requires.chosen.1) in
     let placed = placed_in t k c.entries.result.now c.index-configs-k.result c.entry_in-entry.result
-        (c.entries.ensures.value ∙ read_at t.layers c.layers-layers.result.now k c.index-layers-k.result [] c.layers-layers.ensures.value in_layers c.index-layers-k.is) c.entry_in-entry.ensures in
+    (c.entries.ensures.value ∙ read_at t.layers c.layers-layers.result.now k c.index-layers-k.result [] c.layers-layers.ensures.value in_layers c.index-layers-k.is) c.entry_in-entry.ensures in
     subst (λ (e : CostData). IsEntry e c.entry_in-entry.result) (sym c.economy-economy.ensures.value)
     (entry_is t k c.index-configs-k.result c.entry_in-entry.result c.economy-economy.ensures.valid in_layers placed)
 
@@ -67,7 +66,7 @@ plan_year-requires-clause-row g c κs w =
     let in_layers : k < length t.layers = omega (arith, c.loop-k-test.true, long) in
     let in_years : k < years d = omega (arith, c.loop-k-test.true, long, c.requires.table.many) in
     let placed = placed_in t k c.entries.result.now c.index-configs-k.result c.entry_in-entry.result
-        (c.entries.ensures.value ∙ read_at t.layers c.layers-layers.result.now k c.index-layers-k.result [] c.layers-layers.ensures.value in_layers c.index-layers-k.is) c.entry_in-entry.ensures in
+    (c.entries.ensures.value ∙ read_at t.layers c.layers-layers.result.now k c.index-layers-k.result [] c.layers-layers.ensures.value in_layers c.index-layers-k.is) c.entry_in-entry.ensures in
     let year = year_system_is d c.args.book.now c.args.ids.now k c.get-system.result.now c.requires.numbers in_years c.get-system.ensures.value in
     row_is d c.args.case k t c.index-configs-k.result c.entry_in-entry.result c.requires.table in_years placed
     ∙ ap (λ (s : System). row_of s c.entry_in-entry.result.config) (sym year.is)
@@ -94,7 +93,7 @@ loop-k-preserved g c =
     let start = nothing_built (costs d) in
     let in_layers : k < length t.layers = omega (arith, c.loop-k-test.true, length_is t configs c.requires.chosen.0 c.requires.chosen.1) in
     let placed = placed_in t k c.entries.result.now c.index-configs-k.result c.entry_in-entry.result
-        (c.entries.ensures.value ∙ read_at t.layers c.layers-layers.result.now k c.index-layers-k.result [] c.layers-layers.ensures.value in_layers c.index-layers-k.is) c.entry_in-entry.ensures in
+    (c.entries.ensures.value ∙ read_at t.layers c.layers-layers.result.now k c.index-layers-k.result [] c.layers-layers.ensures.value in_layers c.index-layers-k.is) c.entry_in-entry.ensures in
     let entry = entry_is t k c.index-configs-k.result c.entry_in-entry.result c.economy-economy.ensures.valid in_layers placed in
     let here : c.entry_in-entry.result.config ≡ get_or configs k [] =
     c.entry_in-entry.ensures.config ∙ read_at configs configs k c.index-configs-k.result [] refl c.loop-k-test.true c.index-configs-k.is in
