@@ -1,5 +1,5 @@
 //! The report of a settled case.
-ghost use Rattle.std.specs.Prelude.{◌≡◌, ◌+◌, ◌^◌, ◌<◌, ◌≤◌, All, IfOk, OnOk, length, map};
+ghost use Rattle.std.specs.Prelude.{◌≡◌, ◌+◌, ◌-◌, ◌^◌, ◌<◌, ◌≤◌, All, IfOk, OnOk, length, map};
 ghost use Rattle.cost_terms.specs.Cost.{nothing_built};
 ghost use Rattle.cost_terms.specs.CostData.{greatest as candidate_counts};
 ghost use Rattle.deck_check.specs.Economy.{costs};
@@ -114,6 +114,8 @@ pub(crate) fn report_case<E: SimEngine>(
     ensures runs { E.runs engine.new ≡ E.runs engine.old }
     ensures tape { E.tape engine.new ≡ E.tape engine.old }
 {
+    // Its reading tells the proof that there is a year.
+    let _years = typed.years();
     let (table, solved) = done.into_parts();
     let years = years_of(alloc, typed, book, ids, case, &table, &solved.outcome, engine)?;
     let greatest = greatest_of(book.get(ids[0]));
