@@ -10,7 +10,7 @@ loop-c-preserved g c =
     let one = c.in_ok-tell_case.ensures in
     record {
       told = cases_more (body_of c.args.typed.now) c.loop-c.c c.args.text.now.items c.loop-c.text.items c.tell_case.new.text.items
-      (e.detailed c.args.engine.now) (e.detailed c.loop-c.engine) (e.detailed c.tell_case.new.engine) before.told one.told;
+          (e.detailed c.args.engine.now) (e.detailed c.loop-c.engine) (e.detailed c.tell_case.new.engine) before.told one.told;
       few = omega (arith, before.few, one.few);
       cells_stay = omega (arith, before.cells_stay, one.cells_stay);
       units_stay = omega (arith, before.units_stay, one.units_stay);
