@@ -7,6 +7,7 @@ mod FollowSteps
 mod KeySteps
 mod ListSteps
 mod PlanSteps
+mod ReportSteps
 mod ResultSteps
 mod SettleSteps
 mod TellSteps

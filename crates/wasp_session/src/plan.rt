@@ -1,5 +1,5 @@
 //! What a PLAN line does.
-ghost use Rattle.std.specs.Prelude.{◌≡◌, ◌+◌, ◌*◌, ◌^◌, ◌<◌, ◌≤◌, All, Err, OnOk, length};
+ghost use Rattle.std.specs.Prelude.{◌≡◌, ◌+◌, ◌-◌, ◌*◌, ◌^◌, ◌<◌, ◌≤◌, All, Err, OnOk, length};
 ghost use Rattle.deck_check.specs.Readings as says;
 ghost use Rattle.deck_lines.specs.Deck.{body_of};
 ghost use Rattle.sim_sweep.specs.Demands.{IsFilled};
@@ -86,7 +86,17 @@ fn tell_cases<E: SimEngine>(
     // Its reading tells the proof that there are at most 8 cases.
     let _cases = typed.cases();
     for c in 0..cases.len() {
-        tell_case(alloc, typed, book, ids, kept, c as u64 + 1, cases[c].as_slice(), engine, text)?;
+        tell_case(
+            alloc,
+            typed,
+            book,
+            ids,
+            kept,
+            c as u64 + 1,
+            cases[c].as_slice(),
+            engine,
+            text,
+        )?;
     }
     Ok(())
 }

@@ -1,5 +1,5 @@
 //! The report of a settled case.
-ghost use Rattle.std.specs.Prelude.{◌≡◌, ◌+◌, ◌^◌, ◌<◌, ◌≤◌, All, IfOk, OnOk, length, map};
+ghost use Rattle.std.specs.Prelude.{◌≡◌, ◌+◌, ◌-◌, ◌^◌, ◌<◌, ◌≤◌, All, IfOk, length, map};
 ghost use Rattle.cost_terms.specs.Cost.{nothing_built};
 ghost use Rattle.cost_terms.specs.CostData.{greatest as candidate_counts};
 ghost use Rattle.deck_check.specs.Economy.{costs};
@@ -8,7 +8,6 @@ ghost use Rattle.deck_lines.specs.Deck.{body_of};
 ghost use Rattle.plan_program.specs.Chosen.{IsOutcome, IsSolution};
 ghost use Rattle.report_text.specs.Report.{HasWidths, IsCaseReport, plan_of};
 ghost use Rattle.wasp_session.specs.Case.{AreYearsFrom, IsReportOf, IsTableOf, conditions_of};
-ghost use Rattle.wasp_session.specs.Said.{Tells};
 ghost use Rattle.wasp_session.specs.Steps.{HasYearRoom, HasYears};
 ghost use Rattle.year_system.specs.System.{greatest};
 
@@ -80,7 +79,16 @@ fn years_of<E: SimEngine>(
 {
     match outcome {
         Outcome::Plan { configs, .. } => {
-            plan_years(alloc, typed, book, ids, case, table, configs.as_slice(), engine)
+            plan_years(
+                alloc,
+                typed,
+                book,
+                ids,
+                case,
+                table,
+                configs.as_slice(),
+                engine,
+            )
         }
         Outcome::Infeasible(_) => Ok(Listed::new(Vec::new(alloc))),
     }
@@ -114,8 +122,19 @@ pub(crate) fn report_case<E: SimEngine>(
     ensures runs { E.runs engine.new ≡ E.runs engine.old }
     ensures tape { E.tape engine.new ≡ E.tape engine.old }
 {
+    // Its reading tells the proof that there is a year.
+    let _years = typed.years();
     let (table, solved) = done.into_parts();
-    let years = years_of(alloc, typed, book, ids, case, &table, &solved.outcome, engine)?;
+    let years = years_of(
+        alloc,
+        typed,
+        book,
+        ids,
+        case,
+        &table,
+        &solved.outcome,
+        engine,
+    )?;
     let greatest = greatest_of(book.get(ids[0]));
     let conditions = conditions_of(table.economy());
     Ok(CaseReport {
