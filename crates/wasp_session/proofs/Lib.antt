@@ -1,11 +1,13 @@
 mod AskSteps
 mod CaseSteps
+mod DeckTold
 mod DemandLists
 mod EachSteps
 mod FillKeys
 mod FollowSteps
 mod KeySteps
 mod ListSteps
+mod PlanKeys
 mod PlanSteps
 mod ReportSteps
 mod ResultSteps

@@ -17,13 +17,14 @@ use crate::interning::{intern_all, room_for};
 use crate::listing::{ListError, YearLists, list_cases, systems_of};
 use crate::report::report_case;
 use crate::settling::settle_case;
-use deck_check::{CheckError, TypedDeck, check};
+use deck_check::{CheckError, TypedDeck, check, faults_are_met};
 use deck_lines::Deck;
 use plant_data::{Config, Listed};
 use report_text::{Refusal, write_case, write_heading, write_refusal};
 use sim_engine::SimEngine;
-use sim_sweep::{Kept, fill, new_codes_come_once};
+use sim_sweep::{Kept, due_rows_stand, fill, new_codes_come_once};
 use std::alloc::Global;
+use tunnel_configs::listings_are_one;
 use wasp_fixed::OutOfMemory;
 use year_system::{Book, YearSystem};
 
@@ -164,9 +165,12 @@ fn plan_taken<E: SimEngine>(
 {
     // Its reading tells the proof that there are at most 30 years.
     let _years = typed.years();
+    due_rows_stand();
     let (cells, units) = room_for(&systems);
     let mut ids = Vec::new(alloc);
     intern_all(book, systems, &mut ids)?;
+    // Its reading tells the proof that each system is one.
+    let _systems = book.len();
     engine.ready(cells, units)?;
     fill_keys(alloc, typed, book, &ids, cases, kept, engine)?;
     tell_cases(alloc, typed, book, &ids, kept, cases, engine, text)
@@ -196,6 +200,9 @@ fn plan_typed<E: SimEngine>(
     ensures years { OnOk result (E.detailed engine.new ≤ E.detailed engine.old + 240) }
     ensures tape { E.tape engine.new ≡ E.tape engine.old }
 {
+    // Its reading tells the proof that the deck meets no row of the fault table.
+    let _years = typed.years();
+    listings_are_one();
     let systems = systems_of(alloc, typed)?;
     match list_cases(alloc, typed, &systems) {
         Ok(cases) => plan_taken(alloc, typed, systems, &cases, book, kept, engine, text),
@@ -229,6 +236,7 @@ pub(crate) fn plan_deck<E: SimEngine>(
     ensures years { OnOk result (E.detailed engine.new ≤ E.detailed engine.old + 240) }
     ensures tape { E.tape engine.new ≡ E.tape engine.old }
 {
+    faults_are_met();
     write_heading(number, text)?;
     match check(deck) {
         Ok(typed) => plan_typed(alloc, &typed, book, kept, engine, text),
