@@ -3,10 +3,11 @@ mod CaseSteps
 mod DemandLists
 mod EachSteps
 mod FillKeys
-mod FollowSteps
+pub mod FollowSteps
 mod KeySteps
 mod ListSteps
 mod PlanSteps
 mod ResultSteps
+mod SessionSteps
 mod SettleSteps
 mod TellSteps

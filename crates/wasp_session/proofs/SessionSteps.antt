@@ -1,0 +1,155 @@
+-- A session's lines: none, one that edits, one that plans, and the last; and what is told of each.
+use Rattle.std.proofs.Common.{◌≡◌, ◌∙◌, ap, sym, refl, subst, ℕ, ◌+◌, ◌*◌, ◌≤◌, ◌<◌, Bool, false, true≢false, is_some, List, [], ◌∷◌, ◌++◌, Contains, length, drop, Option, Some, None, slice_get, set, arith}
+use Rattle.std.proofs.lemmas.List.{append-nil, length-append}
+use Rattle.board_core.specs.declared.row.KeptRow.{KeptRow}
+use Rattle.deck_check.specs.Readings.{Says}
+use Rattle.deck_lines.specs.Deck.{body_of, changed, deck_at}
+use Rattle.deck_lines.specs.declared.line.Line.{Line}
+use Rattle.deck_lines.specs.declared.line.Line.TheVariants as lines
+use Rattle.deck_lines.specs.declared.statement.Statement.{Statement}
+use Rattle.report_text.specs.Lines.{keys_line}
+use Rattle.sim_engine.specs.Engine.{Run, Tape}
+use Rattle.sim_sweep.specs.Kept.{AreDue}
+use Rattle.wasp_session.specs.Keys.{AreKeys, CountsKeys, Demands, DemandsOn}
+use Rattle.wasp_session.specs.Said.{IsEndTold, IsLineTold, IsPlanTold, Tells, nothing, plain, plan_count}
+use Rattle.wasp_session.specs.State.{AreOnes, Follows, IsState, Keeps, State}
+use Rattle.wasp_session.specs.Steps.{AddsKeys, HasGrown, IfBoth, Simulates}
+use Rattle.wasp_session.proofs.FollowSteps.{adds_none, count_more, deck_more, deck_same, keeps_more, keys_more}
+use Rattle.wasp_session.proofs.TellSteps.{tells_nothing, tells_plain}
+use Rattle.year_system.specs.System.{System}
+
+-- ---- no line
+
+no_element : {X P : Type 0} (i : ℕ) (x : X) → slice_get [] i ≡ Some x → P
+no_element i x e = absurd (true≢false (sym (ap is_some e)))
+
+pub started : (deck : List Statement) → IsState (record { deck = deck; book = []; kept = []; plans = 0; refused = false })
+started deck = record {
+  ones = λ i j s e f. no_element i s e;
+  due = λ code words e. absurd (true≢false (sym (ap is_some e)));
+  few = omega arith;
+  systems = omega arith;
+  rows = omega arith;
+}
+
+none_kept : Keeps [] [] []
+none_kept = record {
+  due = λ code words e. absurd (true≢false (sym (ap is_some e)));
+  each = λ key. (λ has. absurd (let w = has.1 in omega (arith, w)), λ k. no_element k.id key.0 k.at);
+  many = refl;
+}
+
+no_keys : AreKeys [] []
+no_keys = record {
+  once = λ i j d before within. absurd (omega (arith, within));
+  each = λ key. (λ has. absurd (let w = has.1 in omega (arith, w)), λ none. absurd none);
+}
+
+pub follows_none : (deck : List Statement) (s : State) → deck ≡ [] → s ≡ record { deck = deck; book = []; kept = []; plans = 0; refused = false } → Follows [] s
+follows_none deck s e is = record {
+  deck = ap (λ (z : State). z.deck) is ∙ e;
+  plans = ap (λ (z : State). z.plans) is;
+  keys = [];
+  are_keys = no_keys;
+  keeps = subst (λ (z : State). Keeps z.book z.kept []) (sym is) none_kept;
+}
+
+-- ---- the bounds after a PLAN
+
+pub state_more : (deck : List Statement) (book now : List System) (kept kept_now : List KeptRow) (plans : ℕ) (refused : Bool)
+    → IsState (record { deck = deck; book = book; kept = kept; plans = plans; refused = refused }) → plans < 64 → AreOnes now → AreDue now kept_now → HasGrown book now 30 → length kept_now ≤ length kept + 120000
+    → (other : List Statement) (now_refused : Bool) → IsState (record { deck = other; book = now; kept = kept_now; plans = plans + 1; refused = now_refused })
+state_more deck book now kept kept_now plans refused was few ones due grown rows other now_refused =
+    let systems = was.systems in
+    let old_rows = was.rows in
+    let more = grown.few in
+    record {
+      ones = ones;
+      due = due;
+      few = omega (arith, few);
+      systems = rw grown.is (omega (arith, systems, more, length-append book grown.more));
+      rows = omega (arith, rows, old_rows);
+    }
+
+-- ---- the keys that were demanded
+
+pub counts_keys : (ls : List Line) (s : State) (n : ℕ) → n ≡ length s.kept → Follows ls s → CountsKeys ls n
+counts_keys ls s n e f = record { keys = f.keys; are_keys = f.are_keys; many = e ∙ f.keeps.many }
+
+-- ---- one line more
+
+-- that plans nothing
+pub follows_edit : (ls : List Line) (line : Line) (s t : State) → t ≡ record s { deck = changed s.deck line } → plan_count (line ∷ []) ≡ 0 → ((key : Run) → DemandsOn (deck_at ls) line key → ⊥) → Follows ls s → Follows (ls ++ line ∷ []) t
+follows_edit ls line s t is no_plan none f =
+    let adds : AddsKeys (DemandsOn (deck_at ls) line) s.book s.kept s.book s.kept [] = adds_none (DemandsOn (deck_at ls) line) s.book s.kept none in
+    let more = count_more ls line in
+    let before = f.plans in
+    subst (λ (z : State). Follows (ls ++ line ∷ []) z) (sym is)
+    (record {
+      deck = deck_more ls line s.deck f.deck;
+      plans = omega (arith, more, before, no_plan);
+      keys = f.keys ++ [];
+      are_keys = keys_more ls line s.book s.book s.kept s.kept f.keys [] f.are_keys f.keeps adds;
+      keeps = keeps_more (DemandsOn (deck_at ls) line) s.book s.book s.kept s.kept f.keys [] f.keeps adds f.keeps.due;
+    })
+
+-- that plans
+pub follows_plan : (ls : List Line) (s t : State) (new : List Run) → t.deck ≡ s.deck → t.plans ≡ s.plans + 1 → AddsKeys (Demands (body_of s.deck)) s.book s.kept t.book t.kept new → AreDue t.book t.kept → Follows ls s → Follows (ls ++ lines.Plan ∷ []) t
+follows_plan ls s t new same one_more gains due f =
+    let adds : AddsKeys (DemandsOn (deck_at ls) lines.Plan) s.book s.kept t.book t.kept new = subst (λ (d : Says). AddsKeys (Demands d) s.book s.kept t.book t.kept new) (deck_same ls s.deck f.deck) gains in
+    let more = count_more ls lines.Plan in
+    let before = f.plans in
+    record {
+      deck = same ∙ deck_more ls lines.Plan s.deck f.deck;
+      plans = omega (arith, more, before, one_more);
+      keys = f.keys ++ new;
+      are_keys = keys_more ls lines.Plan s.book t.book s.kept t.kept f.keys new f.are_keys f.keeps adds;
+      keeps = keeps_more (DemandsOn (deck_at ls) lines.Plan) s.book t.book s.kept t.kept f.keys new f.keeps adds due;
+    }
+
+-- ---- what is told of it
+
+pub plan_told : (ls : List Line) (s : State) (before after : List ℕ) (x y : ℕ) → Follows ls s → Tells (IsPlanTold (body_of s.deck) (s.plans + 1)) before after x y → Tells (IsLineTold ls lines.Plan) before after x y
+plan_told ls s before after x y f t =
+    subst (λ (n : ℕ). Tells (IsPlanTold (deck_at ls) (n + 1)) before after x y) f.plans
+    (subst (λ (d : Says). Tells (IsPlanTold d (s.plans + 1)) before after x y) (deck_same ls s.deck f.deck) t)
+
+pub end_told : (ls : List Line) (s : State) (before after : List ℕ) (x : ℕ) → Follows ls s → after ≡ before ++ keys_line (length s.kept) → Tells (IsLineTold ls lines.End) before after x x
+end_told ls s before after x f e = record {
+  told = plain (keys_line (length s.kept));
+  is = record { many = length s.kept; keys = counts_keys ls s (length s.kept) refl f; is = refl };
+  text = e;
+  chosen = omega arith;
+}
+
+-- ---- the keys of a line that demands none
+
+pub simulates_none : (demanded : Run → Type 0) (book : List System) (kept : List KeptRow) (count : ℕ) (tape : Option Tape) (runs : Option (List Run)) → ((key : Run) → demanded key → ⊥) → Simulates demanded book kept book kept count count tape runs runs
+simulates_none demanded book kept count tape runs none = record {
+  new = [];
+  adds = adds_none demanded book kept none;
+  counts = omega arith;
+  told = λ t. t.runs_are ∙ ap (λ (z : List Run). Some z) (sym (append-nil t.before));
+  only_told = λ now is. record { was = now; told = is; is = sym (append-nil now) };
+}
+
+-- ---- the first engine
+
+-- what is true of a thing and itself is true of both ends where nothing changed
+pub both_same : {X : Type 0} (o : Option X) (Is : X → X → Type 0) → ((x : X) → Is x x) → IfBoth o o Is
+both_same None Is each = tt
+both_same (Some x) Is each = each x
+
+pub both_then : {X : Type 0} (o p : Option X) (One Other : X → X → Type 0) → IfBoth o p One → ((x y : X) → One x y → Other x y) → IfBoth o p Other
+both_then None p One Other is each = tt
+both_then (Some x) None One Other is each = tt
+both_then (Some x) (Some y) One Other is each = each x y is
+
+-- the first of a list is replaced
+pub both_first : {X : Type 0} (xs : List X) (x y : X) (Is : X → X → Type 0) → slice_get xs 0 ≡ Some x → Is x y → IfBoth (slice_get xs 0) (slice_get (set xs 0 y) 0) Is
+both_first [] x y Is e is = tt
+both_first (z ∷ xs) x y Is e is = subst (λ (w : Option X). IfBoth w (Some y) Is) (sym e) is
+
+pub drop_first : {X : Type 0} (xs : List X) (y : X) → drop 1 (set xs 0 y) ≡ drop 1 xs
+drop_first [] y = refl
+drop_first (z ∷ xs) y = refl
