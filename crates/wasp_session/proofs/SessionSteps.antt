@@ -1,21 +1,23 @@
 -- A session's lines: none, one that edits, one that plans, and the last; and what is told of each.
-use Rattle.std.proofs.Common.{◌≡◌, ◌∙◌, ap, sym, refl, subst, ℕ, ◌+◌, ◌*◌, ◌≤◌, ◌<◌, Bool, false, true≢false, is_some, List, [], ◌∷◌, ◌++◌, Contains, length, drop, Option, Some, None, slice_get, set, arith}
+use Rattle.std.proofs.Common.{◌≡◌, ◌∙◌, ap, sym, refl, subst, ℕ, ◌+◌, ◌*◌, ◌≤◌, ◌<◌, Bool, false, true≢false, is_some, List, [], ◌∷◌, ◌++◌, Contains, length, Option, Some, None, slice_get, arith}
 use Rattle.std.proofs.lemmas.List.{append-nil, length-append}
 use Rattle.board_core.specs.declared.row.KeptRow.{KeptRow}
 use Rattle.deck_check.specs.Readings.{Says}
 use Rattle.deck_lines.specs.Deck.{body_of, changed, deck_at}
+use Rattle.deck_lines.specs.declared.head.Head.{Head}
+use Rattle.deck_lines.specs.declared.line.CertLine.{CertLine}
 use Rattle.deck_lines.specs.declared.line.Line.{Line}
 use Rattle.deck_lines.specs.declared.line.Line.TheVariants as lines
 use Rattle.deck_lines.specs.declared.statement.Statement.{Statement}
 use Rattle.report_text.specs.Lines.{keys_line}
 use Rattle.sim_engine.specs.Engine.{Run, Tape}
 use Rattle.sim_sweep.specs.Kept.{AreDue}
+use Rattle.wasp_session.specs.Case.{Told}
 use Rattle.wasp_session.specs.Keys.{AreKeys, CountsKeys, Demands, DemandsOn}
 use Rattle.wasp_session.specs.Said.{IsEndTold, IsLineTold, IsPlanTold, Tells, nothing, plain, plan_count}
 use Rattle.wasp_session.specs.State.{AreOnes, Follows, IsState, Keeps, State}
 use Rattle.wasp_session.specs.Steps.{AddsKeys, HasGrown, IfBoth, Simulates}
 use Rattle.wasp_session.proofs.FollowSteps.{adds_none, count_more, deck_more, deck_same, keeps_more, keys_more}
-use Rattle.wasp_session.proofs.TellSteps.{tells_nothing, tells_plain}
 use Rattle.year_system.specs.System.{System}
 
 -- ---- no line
@@ -78,12 +80,52 @@ counts_keys ls s n e f = record { keys = f.keys; are_keys = f.are_keys; many = e
 
 -- ---- one line more
 
+-- a line that plans nothing, and one that tells nothing either
+pub record IsIdle (line : Line) : Type 0 where
+  pub demands : (d : Says) (key : Run) → DemandsOn d line key → ⊥
+  pub plans : plan_count (line ∷ []) ≡ 0
+
+pub record IsQuiet (line : Line) : Type 0 where
+  pub idle : IsIdle line
+  pub tells : (ls : List Line) → IsLineTold ls line nothing
+
+pub set_quiet : (s : Statement) → IsQuiet (lines.Set s)
+set_quiet s = record { idle = record { demands = λ d key none. none; plans = refl }; tells = λ ls. refl }
+
+pub drop_quiet : (h : Head) → IsQuiet (lines.Drop h)
+drop_quiet h = record { idle = record { demands = λ d key none. none; plans = refl }; tells = λ ls. refl }
+
+pub blank_quiet : IsQuiet lines.Blank
+blank_quiet = record { idle = record { demands = λ d key none. none; plans = refl }; tells = λ ls. refl }
+
+pub check_quiet : (c : ℕ) → IsQuiet (lines.Check c)
+check_quiet c = record { idle = record { demands = λ d key none. none; plans = refl }; tells = λ ls. refl }
+
+pub cert_quiet : (l : CertLine) → IsQuiet (lines.Cert l)
+cert_quiet l = record { idle = record { demands = λ d key none. none; plans = refl }; tells = λ ls. refl }
+
+pub skip_quiet : IsQuiet lines.Skip
+skip_quiet = record { idle = record { demands = λ d key none. none; plans = refl }; tells = λ ls. refl }
+
+pub endcheck_quiet : IsQuiet lines.EndCheck
+endcheck_quiet = record { idle = record { demands = λ d key none. none; plans = refl }; tells = λ ls. refl }
+
+pub end_idle : IsIdle lines.End
+end_idle = record { demands = λ d key none. none; plans = refl }
+
+-- the deck of a session is changed
+pub edited : (s : State) (deck now : List Statement) (book : List System) (kept : List KeptRow) (plans : ℕ) (refused : Bool) (line : Line)
+    → record { deck = deck; book = book; kept = kept; plans = plans; refused = refused } ≡ s → now ≡ changed deck line → record { deck = now; book = book; kept = kept; plans = plans; refused = refused } ≡ record s { deck = changed s.deck line }
+edited s deck now book kept plans refused line view is =
+    ap (λ (d : List Statement). record { deck = d; book = book; kept = kept; plans = plans; refused = refused }) is ∙ ap (λ (z : State). record z { deck = changed z.deck line }) view
+
 -- that plans nothing
-pub follows_edit : (ls : List Line) (line : Line) (s t : State) → t ≡ record s { deck = changed s.deck line } → plan_count (line ∷ []) ≡ 0 → ((key : Run) → DemandsOn (deck_at ls) line key → ⊥) → Follows ls s → Follows (ls ++ line ∷ []) t
-follows_edit ls line s t is no_plan none f =
-    let adds : AddsKeys (DemandsOn (deck_at ls) line) s.book s.kept s.book s.kept [] = adds_none (DemandsOn (deck_at ls) line) s.book s.kept none in
+pub follows_edit : (ls : List Line) (line : Line) (s t : State) → IsIdle line → t ≡ record s { deck = changed s.deck line } → Follows ls s → Follows (ls ++ line ∷ []) t
+follows_edit ls line s t idle is f =
+    let adds : AddsKeys (DemandsOn (deck_at ls) line) s.book s.kept s.book s.kept [] = adds_none (DemandsOn (deck_at ls) line) s.book s.kept (idle.demands (deck_at ls)) in
     let more = count_more ls line in
     let before = f.plans in
+    let no_plan = idle.plans in
     subst (λ (z : State). Follows (ls ++ line ∷ []) z) (sym is)
     (record {
       deck = deck_more ls line s.deck f.deck;
@@ -122,16 +164,32 @@ end_told ls s before after x f e = record {
   chosen = omega arith;
 }
 
+-- what was told in a text of its own is put behind another
+pub tells_behind : (Is : Told → Type 0) (none lines before after : List ℕ) (x y : ℕ) → none ≡ [] → after ≡ before ++ lines → Tells Is none lines x y → Tells Is before after x y
+tells_behind Is none lines before after x y e put t = record {
+  told = t.told;
+  is = t.is;
+  text = put ∙ ap (λ (z : List ℕ). before ++ z) (t.text ∙ ap (λ (z : List ℕ). z ++ t.told.text) e);
+  chosen = t.chosen;
+}
+
+pub quiet_told : (ls : List Line) (line : Line) (text : List ℕ) (x : ℕ) → IsQuiet line → Tells (IsLineTold ls line) text text x x
+quiet_told ls line text x quiet = record { told = nothing; is = quiet.tells ls; text = sym (append-nil text); chosen = omega arith }
+
 -- ---- the keys of a line that demands none
 
-pub simulates_none : (demanded : Run → Type 0) (book : List System) (kept : List KeptRow) (count : ℕ) (tape : Option Tape) (runs : Option (List Run)) → ((key : Run) → demanded key → ⊥) → Simulates demanded book kept book kept count count tape runs runs
-simulates_none demanded book kept count tape runs none = record {
+same_simulates : (demanded : Run → Type 0) (book : List System) (kept : List KeptRow) (count : ℕ) (tape : Option Tape) (runs : Option (List Run)) → ((key : Run) → demanded key → ⊥) → Simulates demanded book kept book kept count count tape runs runs
+same_simulates demanded book kept count tape runs none = record {
   new = [];
   adds = adds_none demanded book kept none;
   counts = omega arith;
   told = λ t. t.runs_are ∙ ap (λ (z : List Run). Some z) (sym (append-nil t.before));
   only_told = λ now is. record { was = now; told = is; is = sym (append-nil now) };
 }
+
+pub idle_simulates : (d : Says) (line : Line) (s t : State) (count : ℕ) (tape : Option Tape) (runs : Option (List Run)) → IsIdle line → t ≡ record s { deck = changed s.deck line } → Simulates (DemandsOn d line) s.book s.kept t.book t.kept count count tape runs runs
+idle_simulates d line s t count tape runs idle is =
+    subst (λ (z : State). Simulates (DemandsOn d line) s.book s.kept z.book z.kept count count tape runs runs) (sym is) (same_simulates (DemandsOn d line) s.book s.kept count tape runs (idle.demands d))
 
 -- ---- the first engine
 
@@ -145,11 +203,8 @@ both_then None p One Other is each = tt
 both_then (Some x) None One Other is each = tt
 both_then (Some x) (Some y) One Other is each = each x y is
 
--- the first of a list is replaced
-pub both_first : {X : Type 0} (xs : List X) (x y : X) (Is : X → X → Type 0) → slice_get xs 0 ≡ Some x → Is x y → IfBoth (slice_get xs 0) (slice_get (set xs 0 y) 0) Is
-both_first [] x y Is e is = tt
-both_first (z ∷ xs) x y Is e is = subst (λ (w : Option X). IfBoth w (Some y) Is) (sym e) is
-
-pub drop_first : {X : Type 0} (xs : List X) (y : X) → drop 1 (set xs 0 y) ≡ drop 1 xs
-drop_first [] y = refl
-drop_first (z ∷ xs) y = refl
+-- there is a first engine before and after
+pub both_are : {X : Type 0} (xs ys : List X) (Is : X → X → Type 0) (P : Type 0) → 1 ≤ length xs → length ys ≡ length xs → IfBoth (slice_get xs 0) (slice_get ys 0) Is → ((x y : X) → Is x y → P) → P
+both_are [] ys Is P some same both each = absurd (omega (arith, some))
+both_are (x ∷ xs) [] Is P some same both each = absurd (omega (arith, same))
+both_are (x ∷ xs) (y ∷ ys) Is P some same both each = each x y both

@@ -1,5 +1,5 @@
 //! The session of a run.
-ghost use Rattle.std.specs.Prelude.{◌≡◌, ℕ, ◌+◌, ◌^◌, ◌<◌, ◌≤◌, ◌↔◌, [], ◌∷◌, ◌++◌, List, IfOk, IfSome, IsErr, IsTrue, OnErr, OnOk, All, drop, false, length, slice_get};
+ghost use Rattle.std.specs.Prelude.{◌≡◌, ℕ, ◌+◌, ◌-◌, ◌^◌, ◌<◌, ◌≤◌, ◌↔◌, [], ◌∷◌, ◌++◌, List, IfOk, IfSome, IsErr, IsTrue, OnErr, OnOk, All, drop, false, length, slice_get};
 ghost use Rattle.deck_lines.specs.Deck.{body_of, put};
 ghost use Rattle.deck_lines.specs.Grammar.{IsLine};
 ghost use Rattle.deck_lines.specs.Statements.{IsStatement};
@@ -244,6 +244,8 @@ impl Session {
             }
             Line::Plan => {
                 self.plan(engines, text)?;
+                // Its reading tells the proof that the rows are those of their keys.
+                let _plans = self.plans();
                 Ok(Step::Go)
             }
             Line::End => {
