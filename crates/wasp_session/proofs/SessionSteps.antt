@@ -1,5 +1,5 @@
 -- A session's lines: none, one that edits, one that plans, and the last; and what is told of each.
-use Rattle.std.proofs.Common.{◌≡◌, ◌∙◌, ap, sym, refl, subst, ℕ, ◌+◌, ◌*◌, ◌≤◌, ◌<◌, Bool, false, true≢false, is_some, List, [], ◌∷◌, ◌++◌, Contains, length, Option, Some, None, slice_get, arith}
+use Rattle.std.proofs.Common.{◌≡◌, ◌∙◌, ap, sym, refl, subst, ℕ, ◌+◌, ◌*◌, ◌≤◌, ◌<◌, ◌⊎◌, ⊎_elim, Bool, false, true≢false, is_some, List, [], ◌∷◌, ◌++◌, Contains, length, Option, Some, None, slice_get, arith}
 use Rattle.std.proofs.lemmas.List.{append-nil, length-append}
 use Rattle.board_core.specs.declared.row.KeptRow.{KeptRow}
 use Rattle.deck_check.specs.Readings.{Says}
@@ -110,6 +110,28 @@ skip_quiet = record { idle = record { demands = λ d key none. none; plans = ref
 pub endcheck_quiet : IsQuiet lines.EndCheck
 endcheck_quiet = record { idle = record { demands = λ d key none. none; plans = refl }; tells = λ ls. refl }
 
+-- those of a plan's script that are neither statements nor DROP, PLAN or END
+abbrev pub IsOther : Line → Type 0
+IsOther line = (line ≡ lines.Blank) ⊎ ((c : ℕ) × (line ≡ lines.Check c)) ⊎ ((l : CertLine) × (line ≡ lines.Cert l)) ⊎ (line ≡ lines.Skip) ⊎ (line ≡ lines.EndCheck)
+
+pub other_quiet : (line : Line) → IsOther line → IsQuiet line
+other_quiet line is = ⊎_elim
+    (λ e. subst IsQuiet (sym e) blank_quiet)
+    (λ more. ⊎_elim
+    (λ h. subst IsQuiet (sym h.1) (check_quiet h.0))
+    (λ more. ⊎_elim
+    (λ h. subst IsQuiet (sym h.1) (cert_quiet h.0))
+    (λ more. ⊎_elim (λ e. subst IsQuiet (sym e) skip_quiet) (λ e. subst IsQuiet (sym e) endcheck_quiet) more)
+    more)
+    more)
+    is
+
+pub other_goes : (line : Line) → IsOther line → line ≡ lines.End → ⊥
+other_goes line is end = ⊎_elim
+    (λ e. cc)
+    (λ more. ⊎_elim (λ h. let e = h.1 in cc) (λ more. ⊎_elim (λ h. let e = h.1 in cc) (λ more. ⊎_elim (λ e. cc) (λ e. cc) more) more) more)
+    is
+
 pub end_idle : IsIdle lines.End
 end_idle = record { demands = λ d key none. none; plans = refl }
 
@@ -118,6 +140,15 @@ pub edited : (s : State) (deck now : List Statement) (book : List System) (kept 
     → record { deck = deck; book = book; kept = kept; plans = plans; refused = refused } ≡ s → now ≡ changed deck line → record { deck = now; book = book; kept = kept; plans = plans; refused = refused } ≡ record s { deck = changed s.deck line }
 edited s deck now book kept plans refused line view is =
     ap (λ (d : List Statement). record { deck = d; book = book; kept = kept; plans = plans; refused = refused }) is ∙ ap (λ (z : State). record z { deck = changed z.deck line }) view
+
+other_deck : (deck : List Statement) (line : Line) → IsOther line → deck ≡ changed deck line
+other_deck deck line is = ⊎_elim
+    (λ e. ap (changed deck) (sym e))
+    (λ more. ⊎_elim (λ h. ap (changed deck) (sym h.1)) (λ more. ⊎_elim (λ h. ap (changed deck) (sym h.1)) (λ more. ⊎_elim (λ e. ap (changed deck) (sym e)) (λ e. ap (changed deck) (sym e)) more) more) more)
+    is
+
+pub unchanged : (s : State) (line : Line) → IsOther line → s ≡ record s { deck = changed s.deck line }
+unchanged s line is = ap (λ (d : List Statement). record s { deck = d }) (other_deck s.deck line is)
 
 -- that plans nothing
 pub follows_edit : (ls : List Line) (line : Line) (s t : State) → IsIdle line → t ≡ record s { deck = changed s.deck line } → Follows ls s → Follows (ls ++ line ∷ []) t

@@ -1,4 +1,4 @@
-use Rattle.std.proofs.Common.{◌≡◌, ◌∙◌, ap, sym, subst, [], ◌∷◌, ◌++◌, length, slice_get, arith}
+use Rattle.std.proofs.Common.{◌≡◌, ◌∙◌, ap, sym, refl, subst, ◌+◌, ◌≤◌, true, false, true≢false, IsTrue, [], ◌∷◌, ◌++◌, slice_get, arith}
 use Rattle.deck_lines.specs.Deck.{body_of, changed}
 use Rattle.deck_lines.specs.declared.line.Line.{Line}
 use Rattle.deck_lines.specs.declared.line.Line.TheVariants as lines
@@ -6,7 +6,7 @@ use Rattle.wasp_session.specs.Keys.{DemandsOn}
 use Rattle.wasp_session.specs.Said.{IsLineTold, Tells}
 use Rattle.wasp_session.specs.State.{Follows, State}
 use Rattle.wasp_session.specs.Steps.{IfBoth, Simulates}
-use Rattle.wasp_session.proofs.SessionSteps.{IsIdle, IsQuiet, both_are, both_same, both_then, drop_quiet, edited, end_idle, end_told, follows_edit, follows_plan, idle_simulates, plan_told, quiet_told, set_quiet}
+use Rattle.wasp_session.proofs.SessionSteps.{IsIdle, IsQuiet, both_are, both_same, both_then, drop_quiet, edited, end_idle, end_told, follows_edit, follows_plan, idle_simulates, other_goes, other_quiet, plan_told, quiet_told, set_quiet, unchanged}
 use Rattle.wasp_session.proofs.session.Session.line.Goals as goal
 
 pub returns-in_ok-edit-in-Set-clause-told : goal.returns-in_ok-edit-in-Set-clause-told
@@ -60,7 +60,7 @@ returns-in_ok-plan-in-Plan-clause-told g c = λ ls f.
 pub returns-in_ok-plan-in-Plan-clause-follows : goal.returns-in_ok-plan-in-Plan-clause-follows
 returns-in_ok-plan-in-Plan-clause-follows g c = λ ls f.
     let e = g.E.SimEngine in
-    let due = c.plans.ensures.valid.due in
+    let due = c.plans-plans.ensures.valid.due in
     subst (λ (l : Line). Follows (ls ++ l ∷ []) c.plan.new.self) (sym c.in-Plan.is)
     (both_are c.args.engines.now c.plan.new.engines _ (Follows (ls ++ lines.Plan ∷ []) c.plan.new.self) c.requires.some c.plan.auto.engines c.in_ok-plan-in-Plan.ensures.keys
     (λ x y keys. follows_plan ls c.args.self.now c.plan.new.self keys.new c.in_ok-plan-in-Plan.ensures.deck c.in_ok-plan-in-Plan.ensures.plans keys.adds due f))
@@ -95,4 +95,22 @@ returns-in_ok-end-in-End-clause-keys g c =
 
 pub returns-in-Blank : goal.returns-in-Blank
 returns-in-Blank g c =
-    let h = c.in-Blank in ?
+    let e = g.E.SimEngine in
+    let s : State = c.args.self.now in
+    let line : Line = c.args.line in
+    let quiet = other_quiet c.args.line c.in-Blank.is in
+    let is = unchanged c.args.self.now c.args.line c.in-Blank.is in
+    let sound : IsTrue s.refused → false ≡ true = λ t. sym c.if-self.false ∙ ap (λ (z : State). z.refused) c.self.view_is ∙ t in
+    record {
+      told = λ ls f. both_same (slice_get c.args.engines.now 0) _ (λ x. quiet_told ls c.args.line c.args.text.now.items (e.detailed x) quiet);
+      follows = λ ls f. follows_edit ls c.args.line c.args.self.now c.args.self.now quiet.idle is f;
+      keys = both_same (slice_get c.args.engines.now 0) _ (λ x. idle_simulates (body_of c.args.self.now.deck) c.args.line c.args.self.now c.args.self.now (e.simulated x) (e.tape x) (e.runs x) quiet.idle is);
+      years = both_same (slice_get c.args.engines.now 0) _ (λ x. omega arith);
+      tape = both_same (slice_get c.args.engines.now 0) _ (λ x. refl);
+      others = refl;
+      ended = (λ go. absurd cc, λ end. absurd (other_goes c.args.line c.in-Blank.is end));
+      err_text = tt;
+      err_deck = tt;
+      err = (sound, λ no. absurd (true≢false (sym no)));
+      later = sound;
+    }
