@@ -1,6 +1,6 @@
 -- A session's lines: none, one that edits, one that plans, and the last; and what is told of each.
-use Rattle.std.proofs.Common.{◌≡◌, ◌∙◌, ap, sym, refl, subst, ℕ, ◌+◌, ◌*◌, ◌≤◌, ◌<◌, ◌⊎◌, ⊎_elim, Bool, false, true≢false, is_some, List, [], ◌∷◌, ◌++◌, Contains, length, Option, Some, None, slice_get, arith}
-use Rattle.std.proofs.lemmas.List.{append-nil, length-append}
+use Rattle.std.proofs.Common.{◌≡◌, ◌∙◌, ap, sym, refl, subst, ℕ, ◌+◌, ◌≤◌, ◌⊎◌, ⊎_elim, Bool, false, true≢false, is_some, List, [], ◌∷◌, ◌++◌, length, Option, Some, None, slice_get, arith}
+use Rattle.std.proofs.lemmas.List.{append-nil}
 use Rattle.board_core.specs.declared.row.KeptRow.{KeptRow}
 use Rattle.deck_check.specs.Readings.{Says}
 use Rattle.deck_lines.specs.Deck.{body_of, changed, deck_at}
@@ -12,11 +12,10 @@ use Rattle.deck_lines.specs.declared.statement.Statement.{Statement}
 use Rattle.report_text.specs.Lines.{keys_line}
 use Rattle.sim_engine.specs.Engine.{Run, Tape}
 use Rattle.sim_sweep.specs.Kept.{AreDue}
-use Rattle.wasp_session.specs.Case.{Told}
 use Rattle.wasp_session.specs.Keys.{AreKeys, CountsKeys, Demands, DemandsOn}
-use Rattle.wasp_session.specs.Said.{IsEndTold, IsLineTold, IsPlanTold, Tells, nothing, plain, plan_count}
-use Rattle.wasp_session.specs.State.{AreOnes, Follows, IsState, Keeps, State}
-use Rattle.wasp_session.specs.Steps.{AddsKeys, HasGrown, IfBoth, Simulates}
+use Rattle.wasp_session.specs.Said.{IsLineTold, IsPlanTold, Tells, nothing, plain, plan_count}
+use Rattle.wasp_session.specs.State.{Follows, Keeps, State}
+use Rattle.wasp_session.specs.Steps.{AddsKeys, IfBoth, Simulates}
 use Rattle.wasp_session.proofs.FollowSteps.{adds_none, count_more, deck_more, deck_same, keeps_more, keys_more}
 use Rattle.year_system.specs.System.{System}
 
@@ -24,15 +23,6 @@ use Rattle.year_system.specs.System.{System}
 
 no_element : {X P : Type 0} (i : ℕ) (x : X) → slice_get [] i ≡ Some x → P
 no_element i x e = absurd (true≢false (sym (ap is_some e)))
-
-pub started : (deck : List Statement) → IsState (record { deck = deck; book = []; kept = []; plans = 0; refused = false })
-started deck = record {
-  ones = λ i j s e f. no_element i s e;
-  due = λ code words e. absurd (true≢false (sym (ap is_some e)));
-  few = omega arith;
-  systems = omega arith;
-  rows = omega arith;
-}
 
 none_kept : Keeps [] [] []
 none_kept = record {
@@ -55,23 +45,6 @@ follows_none deck s e is = record {
   are_keys = no_keys;
   keeps = subst (λ (z : State). Keeps z.book z.kept []) (sym is) none_kept;
 }
-
--- ---- the bounds after a PLAN
-
-pub state_more : (deck : List Statement) (book now : List System) (kept kept_now : List KeptRow) (plans : ℕ) (refused : Bool)
-    → IsState (record { deck = deck; book = book; kept = kept; plans = plans; refused = refused }) → plans < 64 → AreOnes now → AreDue now kept_now → HasGrown book now 30 → length kept_now ≤ length kept + 120000
-    → (other : List Statement) (now_refused : Bool) → IsState (record { deck = other; book = now; kept = kept_now; plans = plans + 1; refused = now_refused })
-state_more deck book now kept kept_now plans refused was few ones due grown rows other now_refused =
-    let systems = was.systems in
-    let old_rows = was.rows in
-    let more = grown.few in
-    record {
-      ones = ones;
-      due = due;
-      few = omega (arith, few);
-      systems = rw grown.is (omega (arith, systems, more, length-append book grown.more));
-      rows = omega (arith, rows, old_rows);
-    }
 
 -- ---- the keys that were demanded
 
@@ -150,6 +123,10 @@ other_deck deck line is = ⊎_elim
 pub unchanged : (s : State) (line : Line) → IsOther line → s ≡ record s { deck = changed s.deck line }
 unchanged s line is = ap (λ (d : List Statement). record s { deck = d }) (other_deck s.deck line is)
 
+-- the same of the line that was read
+pub of_line : (s t : State) (line said : Line) → line ≡ said → t ≡ record s { deck = changed s.deck said } → t ≡ record s { deck = changed s.deck line }
+of_line s t line said e is = subst (λ (l : Line). t ≡ record s { deck = changed s.deck l }) (sym e) is
+
 -- that plans nothing
 pub follows_edit : (ls : List Line) (line : Line) (s t : State) → IsIdle line → t ≡ record s { deck = changed s.deck line } → Follows ls s → Follows (ls ++ line ∷ []) t
 follows_edit ls line s t idle is f =
@@ -193,15 +170,6 @@ end_told ls s before after x f e = record {
   is = record { many = length s.kept; keys = counts_keys ls s (length s.kept) refl f; is = refl };
   text = e;
   chosen = omega arith;
-}
-
--- what was told in a text of its own is put behind another
-pub tells_behind : (Is : Told → Type 0) (none lines before after : List ℕ) (x y : ℕ) → none ≡ [] → after ≡ before ++ lines → Tells Is none lines x y → Tells Is before after x y
-tells_behind Is none lines before after x y e put t = record {
-  told = t.told;
-  is = t.is;
-  text = put ∙ ap (λ (z : List ℕ). before ++ z) (t.text ∙ ap (λ (z : List ℕ). z ++ t.told.text) e);
-  chosen = t.chosen;
 }
 
 pub quiet_told : (ls : List Line) (line : Line) (text : List ℕ) (x : ℕ) → IsQuiet line → Tells (IsLineTold ls line) text text x x

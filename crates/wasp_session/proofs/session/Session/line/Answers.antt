@@ -1,4 +1,4 @@
-use Rattle.std.proofs.Common.{◌≡◌, ◌∙◌, ap, sym, refl, subst, ◌+◌, ◌≤◌, true, false, true≢false, IsTrue, [], ◌∷◌, ◌++◌, slice_get, arith}
+use Rattle.std.proofs.Common.{◌≡◌, ◌∙◌, ap, sym, refl, subst, true, false, true≢false, IsTrue, [], ◌∷◌, ◌++◌, slice_get, arith}
 use Rattle.deck_lines.specs.Deck.{body_of, changed}
 use Rattle.deck_lines.specs.declared.line.Line.{Line}
 use Rattle.deck_lines.specs.declared.line.Line.TheVariants as lines
@@ -6,7 +6,7 @@ use Rattle.wasp_session.specs.Keys.{DemandsOn}
 use Rattle.wasp_session.specs.Said.{IsLineTold, Tells}
 use Rattle.wasp_session.specs.State.{Follows, State}
 use Rattle.wasp_session.specs.Steps.{IfBoth, Simulates}
-use Rattle.wasp_session.proofs.SessionSteps.{IsIdle, IsQuiet, both_are, both_same, both_then, drop_quiet, edited, end_idle, end_told, follows_edit, follows_plan, idle_simulates, other_goes, other_quiet, plan_told, quiet_told, set_quiet, unchanged}
+use Rattle.wasp_session.proofs.SessionSteps.{IsIdle, IsQuiet, both_are, both_same, both_then, drop_quiet, edited, end_idle, end_told, follows_edit, follows_plan, idle_simulates, of_line, other_goes, other_quiet, plan_told, quiet_told, set_quiet, unchanged}
 use Rattle.wasp_session.proofs.session.Session.line.Goals as goal
 
 pub returns-in_ok-edit-in-Set-clause-told : goal.returns-in_ok-edit-in-Set-clause-told
@@ -16,17 +16,15 @@ returns-in_ok-edit-in-Set-clause-told g c = λ ls f.
 
 pub returns-in_ok-edit-in-Set-clause-follows : goal.returns-in_ok-edit-in-Set-clause-follows
 returns-in_ok-edit-in-Set-clause-follows g c = λ ls f.
-    let s : State = c.args.self.now in
     let quiet : IsQuiet c.args.line = subst IsQuiet (sym c.in-Set.is) (set_quiet c.in-Set.statement) in
-    let is : c.edit.new.self ≡ record s { deck = changed s.deck c.args.line } = c.in_ok-edit-in-Set.ensures.deck ∙ ap (λ (l : Line). record s { deck = changed s.deck l }) (sym c.in-Set.is) in
+    let is = of_line c.args.self.now c.edit.new.self c.args.line (lines.Set c.in-Set.statement) c.in-Set.is c.in_ok-edit-in-Set.ensures.deck in
     follows_edit ls c.args.line c.args.self.now c.edit.new.self quiet.idle is f
 
 pub returns-in_ok-edit-in-Set-clause-keys : goal.returns-in_ok-edit-in-Set-clause-keys
 returns-in_ok-edit-in-Set-clause-keys g c =
     let e = g.E.SimEngine in
-    let s : State = c.args.self.now in
     let quiet : IsQuiet c.args.line = subst IsQuiet (sym c.in-Set.is) (set_quiet c.in-Set.statement) in
-    let is : c.edit.new.self ≡ record s { deck = changed s.deck c.args.line } = c.in_ok-edit-in-Set.ensures.deck ∙ ap (λ (l : Line). record s { deck = changed s.deck l }) (sym c.in-Set.is) in
+    let is = of_line c.args.self.now c.edit.new.self c.args.line (lines.Set c.in-Set.statement) c.in-Set.is c.in_ok-edit-in-Set.ensures.deck in
     both_same (slice_get c.args.engines.now 0) _ (λ x. idle_simulates (body_of c.args.self.now.deck) c.args.line c.args.self.now c.edit.new.self (e.simulated x) (e.tape x) (e.runs x) quiet.idle is)
 
 pub returns-in-Drop-clause-told : goal.returns-in-Drop-clause-told
@@ -59,7 +57,6 @@ returns-in_ok-plan-in-Plan-clause-told g c = λ ls f.
 
 pub returns-in_ok-plan-in-Plan-clause-follows : goal.returns-in_ok-plan-in-Plan-clause-follows
 returns-in_ok-plan-in-Plan-clause-follows g c = λ ls f.
-    let e = g.E.SimEngine in
     let due = c.plans-plans.ensures.valid.due in
     subst (λ (l : Line). Follows (ls ++ l ∷ []) c.plan.new.self) (sym c.in-Plan.is)
     (both_are c.args.engines.now c.plan.new.engines _ (Follows (ls ++ lines.Plan ∷ []) c.plan.new.self) c.requires.some c.plan.auto.engines c.in_ok-plan-in-Plan.ensures.keys
@@ -80,24 +77,21 @@ returns-in_ok-end-in-End-clause-told g c = λ ls f.
 
 pub returns-in_ok-end-in-End-clause-follows : goal.returns-in_ok-end-in-End-clause-follows
 returns-in_ok-end-in-End-clause-follows g c = λ ls f.
-    let s : State = c.args.self.now in
     let idle : IsIdle c.args.line = subst IsIdle (sym c.in-End.is) end_idle in
-    let is : c.end.new.self ≡ record s { deck = changed s.deck c.args.line } = c.in_ok-end-in-End.ensures.same ∙ ap (λ (l : Line). record s { deck = changed s.deck l }) (sym c.in-End.is) in
+    let is = of_line c.args.self.now c.end.new.self c.args.line lines.End c.in-End.is c.in_ok-end-in-End.ensures.same in
     follows_edit ls c.args.line c.args.self.now c.end.new.self idle is f
 
 pub returns-in_ok-end-in-End-clause-keys : goal.returns-in_ok-end-in-End-clause-keys
 returns-in_ok-end-in-End-clause-keys g c =
     let e = g.E.SimEngine in
-    let s : State = c.args.self.now in
     let idle : IsIdle c.args.line = subst IsIdle (sym c.in-End.is) end_idle in
-    let is : c.end.new.self ≡ record s { deck = changed s.deck c.args.line } = c.in_ok-end-in-End.ensures.same ∙ ap (λ (l : Line). record s { deck = changed s.deck l }) (sym c.in-End.is) in
+    let is = of_line c.args.self.now c.end.new.self c.args.line lines.End c.in-End.is c.in_ok-end-in-End.ensures.same in
     both_same (slice_get c.args.engines.now 0) _ (λ x. idle_simulates (body_of c.args.self.now.deck) c.args.line c.args.self.now c.end.new.self (e.simulated x) (e.tape x) (e.runs x) idle is)
 
 pub returns-in-Blank : goal.returns-in-Blank
 returns-in-Blank g c =
     let e = g.E.SimEngine in
     let s : State = c.args.self.now in
-    let line : Line = c.args.line in
     let quiet = other_quiet c.args.line c.in-Blank.is in
     let is = unchanged c.args.self.now c.args.line c.in-Blank.is in
     let sound : IsTrue s.refused → false ≡ true = λ t. sym c.if-self.false ∙ ap (λ (z : State). z.refused) c.self.view_is ∙ t in
