@@ -143,6 +143,13 @@ follows_edit ls line s t idle is f =
       keeps = keeps_more (DemandsOn (deck_at ls) line) s.book s.book s.kept s.kept f.keys [] f.keeps adds f.keeps.due;
     })
 
+-- its PLAN lines
+pub plans_stay : (s t : State) (line : Line) → IsIdle line → t ≡ record s { deck = changed s.deck line } → t.plans ≡ s.plans + plan_count (line ∷ [])
+plans_stay s t line idle is =
+    let same : t.plans ≡ s.plans = ap (λ (z : State). z.plans) is in
+    let none = idle.plans in
+    omega (arith, same, none)
+
 -- that plans
 pub follows_plan : (ls : List Line) (s t : State) (new : List Run) → t.deck ≡ s.deck → t.plans ≡ s.plans + 1 → AddsKeys (Demands (body_of s.deck)) s.book s.kept t.book t.kept new → AreDue t.book t.kept → Follows ls s → Follows (ls ++ lines.Plan ∷ []) t
 follows_plan ls s t new same one_more gains due f =

@@ -1,12 +1,12 @@
-use Rattle.std.proofs.Common.{◌≡◌, ◌∙◌, ap, sym, refl, subst, true, false, true≢false, IsTrue, [], ◌∷◌, ◌++◌, slice_get, arith}
+use Rattle.std.proofs.Common.{◌≡◌, ◌∙◌, ap, sym, refl, subst, ◌+◌, true, false, true≢false, IsTrue, [], ◌∷◌, ◌++◌, slice_get, arith}
 use Rattle.deck_lines.specs.Deck.{body_of, changed}
 use Rattle.deck_lines.specs.declared.line.Line.{Line}
 use Rattle.deck_lines.specs.declared.line.Line.TheVariants as lines
 use Rattle.wasp_session.specs.Keys.{DemandsOn}
-use Rattle.wasp_session.specs.Said.{IsLineTold, Tells}
+use Rattle.wasp_session.specs.Said.{IsLineTold, Tells, plan_count}
 use Rattle.wasp_session.specs.State.{Follows, State}
 use Rattle.wasp_session.specs.Steps.{IfBoth, Simulates}
-use Rattle.wasp_session.proofs.SessionSteps.{IsIdle, IsQuiet, both_are, both_same, both_then, drop_quiet, edited, end_idle, end_told, follows_edit, follows_plan, idle_simulates, of_line, other_goes, other_quiet, plan_told, quiet_told, set_quiet, unchanged}
+use Rattle.wasp_session.proofs.SessionSteps.{IsIdle, IsQuiet, both_are, both_same, both_then, drop_quiet, edited, end_idle, end_told, follows_edit, follows_plan, idle_simulates, of_line, other_goes, other_quiet, plan_told, plans_stay, quiet_told, set_quiet, unchanged}
 use Rattle.wasp_session.proofs.session.Session.line.Goals as goal
 
 pub returns-in_ok-edit-in-Set-clause-told : goal.returns-in_ok-edit-in-Set-clause-told
@@ -88,6 +88,29 @@ returns-in_ok-end-in-End-clause-keys g c =
     let is = of_line c.args.self.now c.end.new.self c.args.line lines.End c.in-End.is c.in_ok-end-in-End.ensures.same in
     both_same (slice_get c.args.engines.now 0) _ (λ x. idle_simulates (body_of c.args.self.now.deck) c.args.line c.args.self.now c.end.new.self (e.simulated x) (e.tape x) (e.runs x) idle is)
 
+pub returns-in_ok-edit-in-Set-clause-plans : goal.returns-in_ok-edit-in-Set-clause-plans
+returns-in_ok-edit-in-Set-clause-plans g c =
+    let quiet : IsQuiet c.args.line = subst IsQuiet (sym c.in-Set.is) (set_quiet c.in-Set.statement) in
+    plans_stay c.args.self.now c.edit.new.self c.args.line quiet.idle (of_line c.args.self.now c.edit.new.self c.args.line (lines.Set c.in-Set.statement) c.in-Set.is c.in_ok-edit-in-Set.ensures.deck)
+
+pub returns-in-Drop-clause-plans : goal.returns-in-Drop-clause-plans
+returns-in-Drop-clause-plans g c =
+    let i = c.self.inside in
+    let quiet : IsQuiet c.args.line = subst IsQuiet (sym c.in-Drop.is) (drop_quiet c.in-Drop.head) in
+    let now : c.drop_head.new.self ≡ changed i.deck c.args.line = c.drop_head.ensures ∙ ap (λ (l : Line). changed i.deck l) (sym c.in-Drop.is) in
+    plans_stay c.args.self.now _ c.args.line quiet.idle (edited c.args.self.now i.deck c.drop_head.new.self i.book i.kept i.plans i.refused c.args.line c.self.view_is now)
+
+pub returns-in_ok-plan-in-Plan-clause-plans : goal.returns-in_ok-plan-in-Plan-clause-plans
+returns-in_ok-plan-in-Plan-clause-plans g c =
+    let s : State = c.args.self.now in
+    let t : State = c.plan.new.self in
+    subst (λ (l : Line). t.plans ≡ s.plans + plan_count (l ∷ [])) (sym c.in-Plan.is) c.in_ok-plan-in-Plan.ensures.plans
+
+pub returns-in_ok-end-in-End-clause-plans : goal.returns-in_ok-end-in-End-clause-plans
+returns-in_ok-end-in-End-clause-plans g c =
+    let idle : IsIdle c.args.line = subst IsIdle (sym c.in-End.is) end_idle in
+    plans_stay c.args.self.now c.end.new.self c.args.line idle (of_line c.args.self.now c.end.new.self c.args.line lines.End c.in-End.is c.in_ok-end-in-End.ensures.same)
+
 pub returns-in-Blank : goal.returns-in-Blank
 returns-in-Blank g c =
     let e = g.E.SimEngine in
@@ -102,6 +125,7 @@ returns-in-Blank g c =
       years = both_same (slice_get c.args.engines.now 0) _ (λ x. omega arith);
       tape = both_same (slice_get c.args.engines.now 0) _ (λ x. refl);
       others = refl;
+      plans = plans_stay c.args.self.now c.args.self.now c.args.line quiet.idle is;
       ended = (λ go. absurd cc, λ end. absurd (other_goes c.args.line c.in-Blank.is end));
       err_text = tt;
       err_deck = tt;
