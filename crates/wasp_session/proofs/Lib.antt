@@ -4,13 +4,14 @@ mod DeckTold
 mod DemandLists
 mod EachSteps
 mod FillKeys
-mod FollowSteps
+pub mod FollowSteps
 mod KeySteps
 mod ListSteps
 mod PlanKeys
 mod PlanSteps
 mod ReportSteps
 mod ResultSteps
+mod SessionSteps
 mod SettleSteps
 mod TellSteps
 mod YearSteps

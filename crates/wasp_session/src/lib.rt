@@ -21,6 +21,8 @@ mod planned;
 mod report;
 mod session;
 mod settling;
+#[cfg(test)]
+mod tests;
 
 pub use command::{Command, Step};
 pub use laws::telling_goes_on;

@@ -1,5 +1,5 @@
 //! The session of a run.
-ghost use Rattle.std.specs.Prelude.{◌≡◌, ℕ, ◌+◌, ◌^◌, ◌<◌, ◌≤◌, ◌↔◌, [], ◌∷◌, ◌++◌, List, IfOk, IfSome, IsErr, IsTrue, OnErr, OnOk, All, drop, false, length, slice_get};
+ghost use Rattle.std.specs.Prelude.{◌≡◌, ℕ, ◌+◌, ◌-◌, ◌^◌, ◌<◌, ◌≤◌, ◌↔◌, [], ◌∷◌, ◌++◌, List, IfOk, IfSome, IsErr, IsTrue, OnErr, OnOk, All, drop, false, length, slice_get};
 ghost use Rattle.deck_lines.specs.Deck.{body_of, put};
 ghost use Rattle.deck_lines.specs.Grammar.{IsLine};
 ghost use Rattle.deck_lines.specs.Statements.{IsStatement};
@@ -9,7 +9,7 @@ ghost use Rattle.deck_lines.specs.declared.line.Line.TheVariants as lines;
 ghost use Rattle.deck_lines.specs.declared.line.Mode.TheVariants as modes;
 ghost use Rattle.wasp_session.specs.Keys.{CountsKeys, Demands, DemandsOn};
 ghost use Rattle.wasp_session.specs.Listings.{IsTaken};
-ghost use Rattle.wasp_session.specs.Said.{IsLineTold, IsPlanTold, Tells};
+ghost use Rattle.wasp_session.specs.Said.{IsLineTold, IsPlanTold, Tells, plan_count};
 ghost use Rattle.wasp_session.specs.State.{Follows, IsState};
 ghost use Rattle.wasp_session.specs.Steps.{HasCountsLeft, IfBoth, Simulates};
 ghost use Rattle.wasp_session.specs.declared.command.Step.TheVariants as steps;
@@ -100,6 +100,7 @@ impl Session {
     /// How many PLAN lines there were.
     pub fn plans(&self) -> u64
         ensures value { result ≡ self.now.plans }
+        ensures most { result ≤ 64 }
         ensures valid { IsState self.now }
     {
         self.plans
@@ -224,6 +225,7 @@ impl Session {
         ensures years { OnOk result (IfBoth (slice_get engines.old 0) (slice_get engines.new 0) (λ before after. E.detailed after ≤ E.detailed before + 240)) }
         ensures tape { IfBoth (slice_get engines.old 0) (slice_get engines.new 0) (λ before after. E.tape after ≡ E.tape before) }
         ensures others { drop 1 engines.new ≡ drop 1 engines.old }
+        ensures plans { OnOk result (self.new.plans ≡ self.old.plans + plan_count (line ∷ [])) }
         ensures ended { IfOk result (λ step. (step ≡ steps.Ended) ↔ (line ≡ lines.End)) }
         ensures err_text { OnErr result (text.new.items ≡ text.old.items) }
         ensures err_deck { OnErr result (self.new.deck ≡ self.old.deck) }
@@ -244,6 +246,8 @@ impl Session {
             }
             Line::Plan => {
                 self.plan(engines, text)?;
+                // Its reading tells the proof that the rows are those of their keys.
+                let _plans = self.plans();
                 Ok(Step::Go)
             }
             Line::End => {
