@@ -13,5 +13,5 @@ mod ReportSteps
 mod ResultSteps
 mod SessionSteps
 mod SettleSteps
-mod TellSteps
+pub mod TellSteps
 mod YearSteps

@@ -226,6 +226,7 @@ impl Session {
         ensures tape { IfBoth (slice_get engines.old 0) (slice_get engines.new 0) (λ before after. E.tape after ≡ E.tape before) }
         ensures others { drop 1 engines.new ≡ drop 1 engines.old }
         ensures plans { OnOk result (self.new.plans ≡ self.old.plans + plan_count (line ∷ [])) }
+        ensures end { line ≡ lines.End → OnOk result ((text.new.items ≡ text.old.items ++ keys_line (length self.old.kept)) × (engines.new ≡ engines.old)) }
         ensures ended { IfOk result (λ step. (step ≡ steps.Ended) ↔ (line ≡ lines.End)) }
         ensures err_text { OnErr result (text.new.items ≡ text.old.items) }
         ensures err_deck { OnErr result (self.new.deck ≡ self.old.deck) }

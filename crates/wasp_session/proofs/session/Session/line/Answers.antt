@@ -126,6 +126,7 @@ returns-in-Blank g c =
       tape = both_same (slice_get c.args.engines.now 0) _ (λ x. refl);
       others = refl;
       plans = plans_stay c.args.self.now c.args.self.now c.args.line quiet.idle is;
+      end = λ end. absurd (other_goes c.args.line c.in-Blank.is end);
       ended = (λ go. absurd cc, λ end. absurd (other_goes c.args.line c.in-Blank.is end));
       err_text = tt;
       err_deck = tt;
