@@ -1,5 +1,5 @@
 -- What is told of a deck: its refusal, or the reports of its cases.
-use Rattle.std.proofs.Common.{◌≡◌, ◌∙◌, ap, sym, refl, ℕ, ◌+◌, ◌<◌, ◌≤◌, inl, inr, List, ◌++◌, length, arith}
+use Rattle.std.proofs.Common.{◌≡◌, ap, refl, ℕ, inl, inr, List, ◌++◌, length, arith}
 use Rattle.deck_check.specs.DeckFault.{FaultsAreMet, HasNoFault, IsFaultOf}
 use Rattle.deck_check.specs.Readings.{Says, cases, system}
 use Rattle.deck_check.specs.TypedDeck.{margin, tunnel}

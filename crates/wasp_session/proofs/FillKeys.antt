@@ -1,5 +1,5 @@
 -- What filling the demands of a deck does to the keys that are kept.
-use Rattle.std.proofs.Common.{◌≡◌, ◌∙◌, ap, sym, subst, ℕ, ◌+◌, ◌≤◌, ◌++◌, ◌⊎◌, List, All, Contains, IsSome, IsTrue, Option, Some, length, arith}
+use Rattle.std.proofs.Common.{◌≡◌, ◌∙◌, ap, sym, subst, ℕ, ◌+◌, ◌≤◌, ◌++◌, ◌⊎◌, List, All, IsSome, IsTrue, Option, Some, length, arith}
 use Rattle.std.proofs.lemmas.List.Elements.{All-contains}
 use Rattle.board_core.specs.declared.row.KeptRow.{KeptRow}
 use Rattle.board_core.specs.declared.row.Words.{Words}
@@ -28,10 +28,10 @@ pub record AreAsked (d : Says) (book : List System) (room : Room) (ds : List Dem
   pub within : All (HasRoomFor room book) ds
   pub few : length ds ≤ 120000
 
-pub are_asked : (d : Says) (book : List System) (ids : List ℕ) (lists : List (List (List (List ℕ)))) (room : Room) (ds : List Demand) → HasYears d book ids → AreCaseLists d lists → HasYearRoom d room → cases d ≤ 8 → years d ≤ 30
-    → ds ≡ all_demands book ids lists → AreAsked d book room ds
-are_asked d book ids lists room ds numbers are enough few_cases few_years is =
-    subst (AreAsked d book room) (sym is) (record { demands = are_demands d book ids lists numbers are; within = have_room d book ids lists room numbers are enough; few = few_demands d book ids lists numbers are few_cases few_years })
+pub are_asked : (d : Says) (book : List System) (ids : List ℕ) (lists : List (List (List (List ℕ)))) (room : Room) (ds : List Demand) (n m : ℕ) → n ≡ cases d → n ≤ 8 → m ≡ years d → m ≤ 30
+    → HasYears d book ids → AreCaseLists d lists → HasYearRoom d room → ds ≡ all_demands book ids lists → AreAsked d book room ds
+are_asked d book ids lists room ds n m of_cases few_cases of_years few_years numbers are enough is =
+    subst (AreAsked d book room) (sym is) (record { demands = are_demands d book ids lists numbers are; within = have_room d book ids lists room numbers are enough; few = few_demands d book ids lists numbers are (omega (arith, of_cases, few_cases)) (omega (arith, of_years, few_years)) })
 
 pub simulates_is : NewCodesComeOnce → (d : Says) (book : List System) (ids : List ℕ) (lists : List (List (List (List ℕ)))) (kept now : List KeptRow) (count count_now : ℕ) (tape : Option Tape) (runs runs_now : Option (List Run))
     → AreOnes book → All IsSystem book → HasYears d book ids → AreCaseLists d lists

@@ -1,5 +1,5 @@
 -- The keys of a PLAN: none where the deck is refused, and those of the cases where it is taken.
-use Rattle.std.proofs.Common.{◌≡◌, ◌∙◌, ap, sym, subst, ℕ, ◌+◌, ◌≤◌, List, [], ◌++◌, All, Option, Some, Result, Ok, Err, length, arith}
+use Rattle.std.proofs.Common.{◌≡◌, ◌∙◌, ap, sym, subst, ℕ, List, [], All, Option, Some, Result, Ok, Err, arith}
 use Rattle.std.specs.Prelude.{OnErr, OnOk}
 use Rattle.std.proofs.lemmas.List.{append-nil}
 use Rattle.board_core.specs.declared.row.KeptRow.{KeptRow}
@@ -63,10 +63,6 @@ pub due_grown : DueRowsStand → (book now : List System) (most : ℕ) (kept : L
 due_grown stand book now most kept grown due = subst (λ (b : List System). AreDue b kept) (sym grown.is) (stand book grown.more kept due)
 
 -- ---- what is true after a call, by what it answers
-
-pub on_ok2 : {T E : Type 0} (r : Result T E) (A B P : Type 0) → OnOk r A → OnOk r B → (A → B → P) → OnOk r P
-on_ok2 (Ok x) A B P a b f = f a b
-on_ok2 (Err e) A B P a b f = tt
 
 pub on_ok7 : {T E : Type 0} (r : Result T E) (A B C D F G H P : Type 0) → OnOk r A → OnOk r B → OnOk r C → OnOk r D → OnOk r F → OnOk r G → OnOk r H → (A → B → C → D → F → G → H → P) → OnOk r P
 on_ok7 (Ok x) A B C D F G H P a b c d f g h k = k a b c d f g h

@@ -1,6 +1,5 @@
-use Rattle.std.proofs.Common.{◌≡◌, ◌∙◌, ap, ◌≤◌, length, arith}
+use Rattle.std.proofs.Common.{◌∙◌, ap, length, arith}
 use Rattle.std.proofs.lemmas.Result.{on_ok_weaker}
-use Rattle.deck_check.specs.Readings.{cases, years}
 use Rattle.deck_lines.specs.Deck.{body_of}
 use Rattle.wasp_session.proofs.FillKeys.{are_asked, cases_filled, few_rows, fit_all, keys_filled}
 use Rattle.wasp_session.proofs.PlanKeys.{on_either, on_ok7}
@@ -11,24 +10,18 @@ all_demands-requires g c = fit_all (body_of c.args.typed.now) c.args.book.now c.
 
 pub fill-requires-clause-demands : goal.fill-requires-clause-demands
 fill-requires-clause-demands g c κs outlives =
-    let d = body_of c.args.typed.now in
-    let few_cases : cases d ≤ 8 = omega (arith, c.cases-cases.ensures.value, c.cases-cases.ensures.high) in
-    let few_years : years d ≤ 30 = omega (arith, c.years-years.ensures.value, c.years-years.ensures.high) in
-    (are_asked d c.args.book.now c.args.ids.now c.args.cases.now (g.E.SimEngine.room c.args.engine.now) c.deref.result.now c.requires.numbers c.requires.lists c.requires.room few_cases few_years (c.deref.ensures.value ∙ c.in_ok-demands.ensures)).demands
+    (are_asked (body_of c.args.typed.now) c.args.book.now c.args.ids.now c.args.cases.now (g.E.SimEngine.room c.args.engine.now) c.deref.result.now c.cases-cases.result c.years-years.result
+    c.cases-cases.ensures.value c.cases-cases.ensures.high c.years-years.ensures.value c.years-years.ensures.high c.requires.numbers c.requires.lists c.requires.room (c.deref.ensures.value ∙ c.in_ok-demands.ensures)).demands
 
 pub fill-requires-clause-room : goal.fill-requires-clause-room
 fill-requires-clause-room g c κs outlives =
-    let d = body_of c.args.typed.now in
-    let few_cases : cases d ≤ 8 = omega (arith, c.cases-cases.ensures.value, c.cases-cases.ensures.high) in
-    let few_years : years d ≤ 30 = omega (arith, c.years-years.ensures.value, c.years-years.ensures.high) in
-    (are_asked d c.args.book.now c.args.ids.now c.args.cases.now (g.E.SimEngine.room c.args.engine.now) c.deref.result.now c.requires.numbers c.requires.lists c.requires.room few_cases few_years (c.deref.ensures.value ∙ c.in_ok-demands.ensures)).within
+    (are_asked (body_of c.args.typed.now) c.args.book.now c.args.ids.now c.args.cases.now (g.E.SimEngine.room c.args.engine.now) c.deref.result.now c.cases-cases.result c.years-years.result
+    c.cases-cases.ensures.value c.cases-cases.ensures.high c.years-years.ensures.value c.years-years.ensures.high c.requires.numbers c.requires.lists c.requires.room (c.deref.ensures.value ∙ c.in_ok-demands.ensures)).within
 
 pub fill-requires-clause-count : goal.fill-requires-clause-count
 fill-requires-clause-count g c =
-    let d = body_of c.args.typed.now in
-    let few_cases : cases d ≤ 8 = omega (arith, c.cases-cases.ensures.value, c.cases-cases.ensures.high) in
-    let few_years : years d ≤ 30 = omega (arith, c.years-years.ensures.value, c.years-years.ensures.high) in
-    let asked = are_asked d c.args.book.now c.args.ids.now c.args.cases.now (g.E.SimEngine.room c.args.engine.now) c.deref.result.now c.requires.numbers c.requires.lists c.requires.room few_cases few_years (c.deref.ensures.value ∙ c.in_ok-demands.ensures) in
+    let asked = are_asked (body_of c.args.typed.now) c.args.book.now c.args.ids.now c.args.cases.now (g.E.SimEngine.room c.args.engine.now) c.deref.result.now c.cases-cases.result c.years-years.result
+    c.cases-cases.ensures.value c.cases-cases.ensures.high c.years-years.ensures.value c.years-years.ensures.high c.requires.numbers c.requires.lists c.requires.room (c.deref.ensures.value ∙ c.in_ok-demands.ensures) in
     omega (arith, c.requires.count, asked.few)
 
 pub returns-clause-filled : goal.returns-clause-filled
@@ -50,10 +43,8 @@ returns-clause-keys g c =
 
 pub returns-clause-few : goal.returns-clause-few
 returns-clause-few g c =
-    let d = body_of c.args.typed.now in
-    let few_cases : cases d ≤ 8 = omega (arith, c.cases-cases.ensures.value, c.cases-cases.ensures.high) in
-    let few_years : years d ≤ 30 = omega (arith, c.years-years.ensures.value, c.years-years.ensures.high) in
-    let asked = are_asked d c.args.book.now c.args.ids.now c.args.cases.now (g.E.SimEngine.room c.args.engine.now) c.deref.result.now c.requires.numbers c.requires.lists c.requires.room few_cases few_years (c.deref.ensures.value ∙ c.in_ok-demands.ensures) in
+    let asked = are_asked (body_of c.args.typed.now) c.args.book.now c.args.ids.now c.args.cases.now (g.E.SimEngine.room c.args.engine.now) c.deref.result.now c.cases-cases.result c.years-years.result
+    c.cases-cases.ensures.value c.cases-cases.ensures.high c.years-years.ensures.value c.years-years.ensures.high c.requires.numbers c.requires.lists c.requires.room (c.deref.ensures.value ∙ c.in_ok-demands.ensures) in
     on_either c.fill.result _ _ _ c.fill.ensures.many c.fill.ensures.err_kept
     (λ many. few_rows c.args.kept.now c.deref.result.now (length c.fill.new.kept) asked.few many)
     (λ same. let n = ap length same in omega (arith, n))

@@ -1,4 +1,4 @@
-use Rattle.std.proofs.Common.{◌≡◌, ◌∙◌, ◌≤◌, All, arith}
+use Rattle.std.proofs.Common.{◌≤◌, All, arith}
 use Rattle.std.proofs.lemmas.Result.{on_ok_weaker}
 use Rattle.deck_lines.specs.Deck.{body_of}
 use Rattle.wasp_session.proofs.ListSteps.{has_years, year_room}

@@ -1,4 +1,4 @@
-use Rattle.std.proofs.Common.{◌≡◌, ◌∙◌, ap, ◌++◌, Err}
+use Rattle.std.proofs.Common.{◌∙◌, ap, ◌++◌, Err}
 use Rattle.std.proofs.lemmas.Result.{on_ok_weaker}
 use Rattle.deck_lines.specs.Deck.{body_of}
 use Rattle.report_text.specs.Refusals.{refusal_line}
