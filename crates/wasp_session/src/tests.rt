@@ -27,7 +27,14 @@ const DECK: [&str; 11] = [
 ];
 
 /// The price of the fuel rises between two plans, and falls again.
-const PRICES: [&str; 6] = ["PLAN", "FUEL 1 600 0", "PLAN", "FUEL 1 500 0", "PLAN", "END"];
+const PRICES: [&str; 6] = [
+    "PLAN",
+    "FUEL 1 600 0",
+    "PLAN",
+    "FUEL 1 500 0",
+    "PLAN",
+    "END",
+];
 
 /// What is told of the lines with these prices.
 const PRICES_TOLD: &str = "PLAN 1
@@ -189,8 +196,17 @@ fn a_refused_plan_demands_no_key(rt: HostRuntime) -> Result<(), Fail> {
     go_through(rt.alloc(), &["PLAN"], &mut session, &mut engines, &mut text)?;
     assert_eq!(rt; session.keys(), 3);
     let mut refused = Vec::new(rt.alloc());
-    go_through(rt.alloc(), &["DROP LOAD 1", "PLAN"], &mut session, &mut engines, &mut refused)?;
-    assert_eq!(rt; refused.as_slice(), b"PLAN 2\nREFUSED 6 NOLOAD 1 0 0\n".as_slice());
+    go_through(
+        rt.alloc(),
+        &["DROP LOAD 1", "PLAN"],
+        &mut session,
+        &mut engines,
+        &mut refused,
+    )?;
+    assert_eq!(rt;
+        refused.as_slice(),
+        b"PLAN 2\nREFUSED 6 NOLOAD 1 0 0\n".as_slice()
+    );
     assert_eq!(rt; session.keys(), 3);
     Ok(())
 }
