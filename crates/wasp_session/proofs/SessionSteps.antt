@@ -1,5 +1,5 @@
 -- A session's lines: none, one that edits, one that plans, and the last; and what is told of each.
-use Rattle.std.proofs.Common.{◌≡◌, ◌∙◌, ap, sym, refl, subst, ℕ, ◌+◌, ◌≤◌, ◌⊎◌, ⊎_elim, Bool, false, true≢false, is_some, List, [], ◌∷◌, ◌++◌, length, Option, Some, None, slice_get, arith}
+use Rattle.std.proofs.Common.{◌≡◌, ◌∙◌, ap, sym, refl, subst, ℕ, ◌+◌, ◌≤◌, ◌⊎◌, ⊎_elim, false, true≢false, is_some, List, [], ◌∷◌, ◌++◌, length, Option, Some, None, slice_get, arith}
 use Rattle.std.proofs.lemmas.List.{append-nil}
 use Rattle.board_core.specs.declared.row.KeptRow.{KeptRow}
 use Rattle.deck_check.specs.Readings.{Says}
@@ -108,12 +108,6 @@ other_goes line is end = ⊎_elim
 pub end_idle : IsIdle lines.End
 end_idle = record { demands = λ d key none. none; plans = refl }
 
--- the deck of a session is changed
-pub edited : (s : State) (deck now : List Statement) (book : List System) (kept : List KeptRow) (plans : ℕ) (refused : Bool) (line : Line)
-    → record { deck = deck; book = book; kept = kept; plans = plans; refused = refused } ≡ s → now ≡ changed deck line → record { deck = now; book = book; kept = kept; plans = plans; refused = refused } ≡ record s { deck = changed s.deck line }
-edited s deck now book kept plans refused line view is =
-    ap (λ (d : List Statement). record { deck = d; book = book; kept = kept; plans = plans; refused = refused }) is ∙ ap (λ (z : State). record z { deck = changed z.deck line }) view
-
 other_deck : (deck : List Statement) (line : Line) → IsOther line → deck ≡ changed deck line
 other_deck deck line is = ⊎_elim
     (λ e. ap (changed deck) (sym e))
@@ -179,7 +173,7 @@ end_told ls s before after x f e = record {
   chosen = omega arith;
 }
 
-pub quiet_told : (ls : List Line) (line : Line) (text : List ℕ) (x : ℕ) → IsQuiet line → Tells (IsLineTold ls line) text text x x
+quiet_told : (ls : List Line) (line : Line) (text : List ℕ) (x : ℕ) → IsQuiet line → Tells (IsLineTold ls line) text text x x
 quiet_told ls line text x quiet = record { told = nothing; is = quiet.tells ls; text = sym (append-nil text); chosen = omega arith }
 
 -- ---- the keys of a line that demands none
@@ -193,7 +187,7 @@ same_simulates demanded book kept count tape runs none = record {
   only_told = λ now is. record { was = now; told = is; is = sym (append-nil now) };
 }
 
-pub idle_simulates : (d : Says) (line : Line) (s t : State) (count : ℕ) (tape : Option Tape) (runs : Option (List Run)) → IsIdle line → t ≡ record s { deck = changed s.deck line } → Simulates (DemandsOn d line) s.book s.kept t.book t.kept count count tape runs runs
+idle_simulates : (d : Says) (line : Line) (s t : State) (count : ℕ) (tape : Option Tape) (runs : Option (List Run)) → IsIdle line → t ≡ record s { deck = changed s.deck line } → Simulates (DemandsOn d line) s.book s.kept t.book t.kept count count tape runs runs
 idle_simulates d line s t count tape runs idle is =
     subst (λ (z : State). Simulates (DemandsOn d line) s.book s.kept z.book z.kept count count tape runs runs) (sym is) (same_simulates (DemandsOn d line) s.book s.kept count tape runs (idle.demands d))
 
@@ -208,6 +202,17 @@ pub both_then : {X : Type 0} (o p : Option X) (One Other : X → X → Type 0) �
 both_then None p One Other is each = tt
 both_then (Some x) None One Other is each = tt
 both_then (Some x) (Some y) One Other is each = each x y is
+
+-- a line that demands none, by an engine that stays as it was
+pub idle_keys : {X : Type 0} (simulated : X → ℕ) (tape : X → Option Tape) (runs : X → Option (List Run)) (o : Option X) (d : Says) (line : Line) (s t : State) → IsIdle line → t ≡ record s { deck = changed s.deck line }
+    → IfBoth o o (λ before after. Simulates (DemandsOn d line) s.book s.kept t.book t.kept (simulated before) (simulated after) (tape before) (runs before) (runs after))
+idle_keys simulated tape runs None d line s t idle is = tt
+idle_keys simulated tape runs (Some x) d line s t idle is = idle_simulates d line s t (simulated x) (tape x) (runs x) idle is
+
+-- a line that tells nothing
+pub quiet_tells : {X : Type 0} (detailed : X → ℕ) (o : Option X) (ls : List Line) (line : Line) (text : List ℕ) → IsQuiet line → IfBoth o o (λ before after. Tells (IsLineTold ls line) text text (detailed before) (detailed after))
+quiet_tells detailed None ls line text quiet = tt
+quiet_tells detailed (Some x) ls line text quiet = quiet_told ls line text (detailed x) quiet
 
 -- there is a first engine before and after
 pub both_are : {X : Type 0} (xs ys : List X) (Is : X → X → Type 0) (P : Type 0) → 1 ≤ length xs → length ys ≡ length xs → IfBoth (slice_get xs 0) (slice_get ys 0) Is → ((x y : X) → Is x y → P) → P

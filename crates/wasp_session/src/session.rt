@@ -1,6 +1,6 @@
 //! The session of a run.
 ghost use Rattle.std.specs.Prelude.{◌≡◌, ℕ, ◌+◌, ◌-◌, ◌^◌, ◌<◌, ◌≤◌, ◌↔◌, [], ◌∷◌, ◌++◌, List, IfOk, IfSome, IsErr, IsTrue, OnErr, OnOk, All, drop, false, length, slice_get};
-ghost use Rattle.deck_lines.specs.Deck.{body_of, put};
+ghost use Rattle.deck_lines.specs.Deck.{body_of, put, without};
 ghost use Rattle.deck_lines.specs.Grammar.{IsLine};
 ghost use Rattle.deck_lines.specs.Statements.{IsStatement};
 ghost use Rattle.report_text.specs.Lines.{keys_line};
@@ -16,7 +16,7 @@ ghost use Rattle.wasp_session.specs.declared.command.Step.TheVariants as steps;
 
 use crate::command::{Command, Step};
 use crate::plan::plan_deck;
-use deck_lines::{Deck, Line, Mode, Statement};
+use deck_lines::{Deck, Head, Line, Mode, Statement};
 use report_text::write_keys;
 use sim_engine::SimEngine;
 use sim_sweep::Kept;
@@ -132,7 +132,15 @@ impl Session {
         self.refused = true;
         self.plans += 1;
         let mut lines = Vec::new(self.alloc);
-        plan_deck(self.alloc, &self.deck, self.plans, &mut self.book, &mut self.kept, engine, &mut lines)?;
+        plan_deck(
+            self.alloc,
+            &self.deck,
+            self.plans,
+            &mut self.book,
+            &mut self.kept,
+            engine,
+            &mut lines,
+        )?;
         text.extend_from_slice(&lines)?;
         self.refused = false;
         Ok(())
@@ -183,6 +191,13 @@ impl Session {
         self.deck.set(statement)?;
         self.refused = false;
         Ok(())
+    }
+
+    /// Takes the statement with a head away, which needs no memory.
+    fn leave_out(&mut self, head: &Head)
+        ensures { self.new ≡ record self.old { deck = without self.old.deck head.now } }
+    {
+        self.deck.drop_head(head);
     }
 
     /// Writes the number of the keys, behind the flag.
@@ -242,7 +257,7 @@ impl Session {
                 Ok(Step::Go)
             }
             Line::Drop(head) => {
-                self.deck.drop_head(&head);
+                self.leave_out(&head);
                 Ok(Step::Go)
             }
             Line::Plan => {
@@ -255,7 +270,9 @@ impl Session {
                 self.end(text)?;
                 Ok(Step::Ended)
             }
-            Line::Blank | Line::Check(_) | Line::Cert(_) | Line::Skip | Line::EndCheck => Ok(Step::Go),
+            Line::Blank | Line::Check(_) | Line::Cert(_) | Line::Skip | Line::EndCheck => Ok(
+                Step::Go,
+            ),
         }
     }
 }

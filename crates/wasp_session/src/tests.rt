@@ -27,7 +27,14 @@ const DECK: [&str; 11] = [
 ];
 
 /// The price of the fuel rises between two plans, and falls again.
-const PRICES: [&str; 6] = ["PLAN", "FUEL 1 600 0", "PLAN", "FUEL 1 500 0", "PLAN", "END"];
+const PRICES: [&str; 6] = [
+    "PLAN",
+    "FUEL 1 600 0",
+    "PLAN",
+    "FUEL 1 500 0",
+    "PLAN",
+    "END",
+];
 
 /// What is told of the lines with these prices.
 const PRICES_TOLD: &str = "PLAN 1
@@ -66,6 +73,20 @@ COME 1 2 30257504
 KEYS 6
 ";
 
+/// What is told of a plan of the deck where money bears no interest.
+const NO_RATE_TOLD: &str = "PLAN 1
+CASE 1
+CHOSEN 1 2
+EDGE 1 +
+TERMS 1 100000000 95000000 0 8672400 0 8760000
+RISK 1 10000000 10000000 8760
+GEN 1 T1 GAS 867240
+TOTAL 22432400
+COME 1 0 876000000
+COME 1 1 97984000
+COME 1 2 22432400
+";
+
 /// Goes through some lines.
 fn go_through<E: SimEngine>(
     alloc: Global,
@@ -94,13 +115,19 @@ fn go_through<E: SimEngine>(
     Ok(step)
 }
 
-/// The year of the deck with one more line.
-fn year_with(alloc: Global, edit: &str) -> Result<YearSystem, Fail> {
+/// The deck with one more line.
+fn deck_with(alloc: Global, edit: &str) -> Result<Deck, Fail> {
     let mut deck = Deck::new(alloc);
     for text in &DECK {
         set_line(alloc, &mut deck, text)?;
     }
     set_line(alloc, &mut deck, edit)?;
+    Ok(deck)
+}
+
+/// The year of that deck.
+fn year_with(alloc: Global, edit: &str) -> Result<YearSystem, Fail> {
+    let deck = deck_with(alloc, edit)?;
     let Ok(typed) = check(&deck) else {
         return Err(Fail::new("the deck has a fault"));
     };
@@ -189,8 +216,29 @@ fn a_refused_plan_demands_no_key(rt: HostRuntime) -> Result<(), Fail> {
     go_through(rt.alloc(), &["PLAN"], &mut session, &mut engines, &mut text)?;
     assert_eq!(rt; session.keys(), 3);
     let mut refused = Vec::new(rt.alloc());
-    go_through(rt.alloc(), &["DROP LOAD 1", "PLAN"], &mut session, &mut engines, &mut refused)?;
-    assert_eq!(rt; refused.as_slice(), b"PLAN 2\nREFUSED 6 NOLOAD 1 0 0\n".as_slice());
+    go_through(
+        rt.alloc(),
+        &["DROP LOAD 1", "PLAN"],
+        &mut session,
+        &mut engines,
+        &mut refused,
+    )?;
+    assert_eq!(rt;
+        refused.as_slice(),
+        b"PLAN 2\nREFUSED 6 NOLOAD 1 0 0\n".as_slice()
+    );
     assert_eq!(rt; session.keys(), 3);
+    Ok(())
+}
+
+#[test]
+fn a_deck_is_planned(rt: HostRuntime) -> Result<(), Fail> {
+    let deck = deck_with(rt.alloc(), "RATE 0 0")?;
+    let mut session = Session::with_deck(rt.alloc(), Command::Plan, deck);
+    let mut engines = [PlainEngine::new(rt.alloc())];
+    let mut text = Vec::new(rt.alloc());
+    session.plan(&mut engines, &mut text)?;
+    assert_eq!(rt; text.as_slice(), NO_RATE_TOLD.as_bytes());
+    assert_eq!(rt; (session.plans(), session.keys()), (1, 3));
     Ok(())
 }

@@ -1,52 +1,57 @@
 use Rattle.std.proofs.Common.{◌≡◌, ◌∙◌, ap, sym, refl, subst, ◌+◌, true, false, true≢false, IsTrue, [], ◌∷◌, ◌++◌, slice_get, arith}
-use Rattle.deck_lines.specs.Deck.{body_of, changed}
+use Rattle.deck_lines.specs.Deck.{body_of}
 use Rattle.deck_lines.specs.declared.line.Line.{Line}
 use Rattle.deck_lines.specs.declared.line.Line.TheVariants as lines
 use Rattle.wasp_session.specs.Keys.{DemandsOn}
 use Rattle.wasp_session.specs.Said.{IsLineTold, Tells, plan_count}
 use Rattle.wasp_session.specs.State.{Follows, State}
 use Rattle.wasp_session.specs.Steps.{IfBoth, Simulates}
-use Rattle.wasp_session.proofs.SessionSteps.{IsIdle, IsQuiet, both_are, both_same, both_then, drop_quiet, edited, end_idle, end_told, follows_edit, follows_plan, idle_simulates, of_line, other_goes, other_quiet, plan_told, plans_stay, quiet_told, set_quiet, unchanged}
+use Rattle.wasp_session.proofs.SessionSteps.{IsIdle, IsQuiet, both_are, both_same, both_then, drop_quiet, end_idle, end_told, follows_edit, follows_plan, idle_keys, of_line, other_goes, other_quiet, plan_told, plans_stay, quiet_tells, set_quiet, unchanged}
 use Rattle.wasp_session.proofs.session.Session.line.Goals as goal
 
 pub returns-in_ok-edit-in-Set-clause-told : goal.returns-in_ok-edit-in-Set-clause-told
 returns-in_ok-edit-in-Set-clause-told g c = λ ls f.
     let quiet : IsQuiet c.args.line = subst IsQuiet (sym c.in-Set.is) (set_quiet c.in-Set.statement) in
-    both_same (slice_get c.args.engines.now 0) _ (λ x. quiet_told ls c.args.line c.args.text.now.items (g.E.SimEngine.detailed x) quiet)
+    quiet_tells g.E.SimEngine.detailed (slice_get c.args.engines.now 0) ls c.args.line c.args.text.now.items quiet
 
 pub returns-in_ok-edit-in-Set-clause-follows : goal.returns-in_ok-edit-in-Set-clause-follows
 returns-in_ok-edit-in-Set-clause-follows g c = λ ls f.
     let quiet : IsQuiet c.args.line = subst IsQuiet (sym c.in-Set.is) (set_quiet c.in-Set.statement) in
-    let is = of_line c.args.self.now c.edit.new.self c.args.line (lines.Set c.in-Set.statement) c.in-Set.is c.in_ok-edit-in-Set.ensures.deck in
-    follows_edit ls c.args.line c.args.self.now c.edit.new.self quiet.idle is f
+    follows_edit ls c.args.line c.args.self.now c.edit.new.self quiet.idle (of_line c.args.self.now c.edit.new.self c.args.line (lines.Set c.in-Set.statement) c.in-Set.is c.in_ok-edit-in-Set.ensures.deck) f
 
 pub returns-in_ok-edit-in-Set-clause-keys : goal.returns-in_ok-edit-in-Set-clause-keys
 returns-in_ok-edit-in-Set-clause-keys g c =
     let e = g.E.SimEngine in
     let quiet : IsQuiet c.args.line = subst IsQuiet (sym c.in-Set.is) (set_quiet c.in-Set.statement) in
-    let is = of_line c.args.self.now c.edit.new.self c.args.line (lines.Set c.in-Set.statement) c.in-Set.is c.in_ok-edit-in-Set.ensures.deck in
-    both_same (slice_get c.args.engines.now 0) _ (λ x. idle_simulates (body_of c.args.self.now.deck) c.args.line c.args.self.now c.edit.new.self (e.simulated x) (e.tape x) (e.runs x) quiet.idle is)
+    idle_keys e.simulated e.tape e.runs (slice_get c.args.engines.now 0) (body_of c.args.self.now.deck) c.args.line c.args.self.now c.edit.new.self quiet.idle
+    (of_line c.args.self.now c.edit.new.self c.args.line (lines.Set c.in-Set.statement) c.in-Set.is c.in_ok-edit-in-Set.ensures.deck)
+
+pub returns-in_ok-edit-in-Set-clause-plans : goal.returns-in_ok-edit-in-Set-clause-plans
+returns-in_ok-edit-in-Set-clause-plans g c =
+    let quiet : IsQuiet c.args.line = subst IsQuiet (sym c.in-Set.is) (set_quiet c.in-Set.statement) in
+    plans_stay c.args.self.now c.edit.new.self c.args.line quiet.idle (of_line c.args.self.now c.edit.new.self c.args.line (lines.Set c.in-Set.statement) c.in-Set.is c.in_ok-edit-in-Set.ensures.deck)
 
 pub returns-in-Drop-clause-told : goal.returns-in-Drop-clause-told
 returns-in-Drop-clause-told g c = λ ls f.
     let quiet : IsQuiet c.args.line = subst IsQuiet (sym c.in-Drop.is) (drop_quiet c.in-Drop.head) in
-    both_same (slice_get c.args.engines.now 0) _ (λ x. quiet_told ls c.args.line c.args.text.now.items (g.E.SimEngine.detailed x) quiet)
+    quiet_tells g.E.SimEngine.detailed (slice_get c.args.engines.now 0) ls c.args.line c.args.text.now.items quiet
 
 pub returns-in-Drop-clause-follows : goal.returns-in-Drop-clause-follows
 returns-in-Drop-clause-follows g c = λ ls f.
-    let i = c.self.inside in
     let quiet : IsQuiet c.args.line = subst IsQuiet (sym c.in-Drop.is) (drop_quiet c.in-Drop.head) in
-    let now : c.drop_head.new.self ≡ changed i.deck c.args.line = c.drop_head.ensures ∙ ap (λ (l : Line). changed i.deck l) (sym c.in-Drop.is) in
-    follows_edit ls c.args.line c.args.self.now _ quiet.idle (edited c.args.self.now i.deck c.drop_head.new.self i.book i.kept i.plans i.refused c.args.line c.self.view_is now) f
+    follows_edit ls c.args.line c.args.self.now c.leave_out.new.self quiet.idle (of_line c.args.self.now c.leave_out.new.self c.args.line (lines.Drop c.in-Drop.head) c.in-Drop.is c.leave_out.ensures) f
 
 pub returns-in-Drop-clause-keys : goal.returns-in-Drop-clause-keys
 returns-in-Drop-clause-keys g c =
     let e = g.E.SimEngine in
-    let i = c.self.inside in
     let quiet : IsQuiet c.args.line = subst IsQuiet (sym c.in-Drop.is) (drop_quiet c.in-Drop.head) in
-    let now : c.drop_head.new.self ≡ changed i.deck c.args.line = c.drop_head.ensures ∙ ap (λ (l : Line). changed i.deck l) (sym c.in-Drop.is) in
-    let is = edited c.args.self.now i.deck c.drop_head.new.self i.book i.kept i.plans i.refused c.args.line c.self.view_is now in
-    both_same (slice_get c.args.engines.now 0) _ (λ x. idle_simulates (body_of c.args.self.now.deck) c.args.line c.args.self.now _ (e.simulated x) (e.tape x) (e.runs x) quiet.idle is)
+    idle_keys e.simulated e.tape e.runs (slice_get c.args.engines.now 0) (body_of c.args.self.now.deck) c.args.line c.args.self.now c.leave_out.new.self quiet.idle
+    (of_line c.args.self.now c.leave_out.new.self c.args.line (lines.Drop c.in-Drop.head) c.in-Drop.is c.leave_out.ensures)
+
+pub returns-in-Drop-clause-plans : goal.returns-in-Drop-clause-plans
+returns-in-Drop-clause-plans g c =
+    let quiet : IsQuiet c.args.line = subst IsQuiet (sym c.in-Drop.is) (drop_quiet c.in-Drop.head) in
+    plans_stay c.args.self.now c.leave_out.new.self c.args.line quiet.idle (of_line c.args.self.now c.leave_out.new.self c.args.line (lines.Drop c.in-Drop.head) c.in-Drop.is c.leave_out.ensures)
 
 pub returns-in_ok-plan-in-Plan-clause-told : goal.returns-in_ok-plan-in-Plan-clause-told
 returns-in_ok-plan-in-Plan-clause-told g c = λ ls f.
@@ -86,19 +91,7 @@ returns-in_ok-end-in-End-clause-keys g c =
     let e = g.E.SimEngine in
     let idle : IsIdle c.args.line = subst IsIdle (sym c.in-End.is) end_idle in
     let is = of_line c.args.self.now c.end.new.self c.args.line lines.End c.in-End.is c.in_ok-end-in-End.ensures.same in
-    both_same (slice_get c.args.engines.now 0) _ (λ x. idle_simulates (body_of c.args.self.now.deck) c.args.line c.args.self.now c.end.new.self (e.simulated x) (e.tape x) (e.runs x) idle is)
-
-pub returns-in_ok-edit-in-Set-clause-plans : goal.returns-in_ok-edit-in-Set-clause-plans
-returns-in_ok-edit-in-Set-clause-plans g c =
-    let quiet : IsQuiet c.args.line = subst IsQuiet (sym c.in-Set.is) (set_quiet c.in-Set.statement) in
-    plans_stay c.args.self.now c.edit.new.self c.args.line quiet.idle (of_line c.args.self.now c.edit.new.self c.args.line (lines.Set c.in-Set.statement) c.in-Set.is c.in_ok-edit-in-Set.ensures.deck)
-
-pub returns-in-Drop-clause-plans : goal.returns-in-Drop-clause-plans
-returns-in-Drop-clause-plans g c =
-    let i = c.self.inside in
-    let quiet : IsQuiet c.args.line = subst IsQuiet (sym c.in-Drop.is) (drop_quiet c.in-Drop.head) in
-    let now : c.drop_head.new.self ≡ changed i.deck c.args.line = c.drop_head.ensures ∙ ap (λ (l : Line). changed i.deck l) (sym c.in-Drop.is) in
-    plans_stay c.args.self.now _ c.args.line quiet.idle (edited c.args.self.now i.deck c.drop_head.new.self i.book i.kept i.plans i.refused c.args.line c.self.view_is now)
+    idle_keys e.simulated e.tape e.runs (slice_get c.args.engines.now 0) (body_of c.args.self.now.deck) c.args.line c.args.self.now c.end.new.self idle is
 
 pub returns-in_ok-plan-in-Plan-clause-plans : goal.returns-in_ok-plan-in-Plan-clause-plans
 returns-in_ok-plan-in-Plan-clause-plans g c =
@@ -119,9 +112,9 @@ returns-in-Blank g c =
     let is = unchanged c.args.self.now c.args.line c.in-Blank.is in
     let sound : IsTrue s.refused → false ≡ true = λ t. sym c.if-self.false ∙ ap (λ (z : State). z.refused) c.self.view_is ∙ t in
     record {
-      told = λ ls f. both_same (slice_get c.args.engines.now 0) _ (λ x. quiet_told ls c.args.line c.args.text.now.items (e.detailed x) quiet);
+      told = λ ls f. quiet_tells e.detailed (slice_get c.args.engines.now 0) ls c.args.line c.args.text.now.items quiet;
       follows = λ ls f. follows_edit ls c.args.line c.args.self.now c.args.self.now quiet.idle is f;
-      keys = both_same (slice_get c.args.engines.now 0) _ (λ x. idle_simulates (body_of c.args.self.now.deck) c.args.line c.args.self.now c.args.self.now (e.simulated x) (e.tape x) (e.runs x) quiet.idle is);
+      keys = idle_keys e.simulated e.tape e.runs (slice_get c.args.engines.now 0) (body_of c.args.self.now.deck) c.args.line c.args.self.now c.args.self.now quiet.idle is;
       years = both_same (slice_get c.args.engines.now 0) _ (λ x. omega arith);
       tape = both_same (slice_get c.args.engines.now 0) _ (λ x. refl);
       others = refl;
