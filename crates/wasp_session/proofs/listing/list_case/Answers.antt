@@ -21,9 +21,10 @@ returns-in-Err-clause-over c =
 pub loop-k-preserved : goal.loop-k-preserved
 loop-k-preserved c =
     let n = c.loop-k.invariant.0 in
-    rw c.in-Ok-push.ensures.items
-    (omega (arith, n, length-append c.loop-k.lists.items (c.in-Ok.list ∷ [])),
-    each_more (λ k configs. IsYearList (body_of c.args.typed.now) c.args.case (k + 1) configs) c.loop-k.lists.items c.in-Ok.list c.loop-k.invariant.1 (rw n c.in-Ok.ensures.list))
+    rw c.in-Ok-push.ensures.items (
+      omega (arith, n, length-append c.loop-k.lists.items (c.in-Ok.list ∷ [])),
+      each_more (λ k configs. IsYearList (body_of c.args.typed.now) c.args.case (k + 1) configs) c.loop-k.lists.items c.in-Ok.list c.loop-k.invariant.1 (rw n c.in-Ok.ensures.list),
+    )
 
 pub returns-clause-lists : goal.returns-clause-lists
 returns-clause-lists c =

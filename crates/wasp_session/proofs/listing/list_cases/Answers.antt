@@ -13,6 +13,7 @@ returns-in-Err-clause-over c = λ r e.
 pub loop-c-preserved : goal.loop-c-preserved
 loop-c-preserved c =
     let n = c.loop-c.invariant.0 in
-    rw c.in-Ok-push.ensures.items
-    (omega (arith, n, length-append c.loop-c.lists.items (c.in-Ok.list ∷ [])),
-    each_more (λ k years. AreYearLists (body_of c.args.typed.now) (k + 1) years) c.loop-c.lists.items c.in-Ok.list c.loop-c.invariant.1 (rw n c.in-Ok.ensures.lists))
+    rw c.in-Ok-push.ensures.items (
+      omega (arith, n, length-append c.loop-c.lists.items (c.in-Ok.list ∷ [])),
+      each_more (λ k years. AreYearLists (body_of c.args.typed.now) (k + 1) years) c.loop-c.lists.items c.in-Ok.list c.loop-c.invariant.1 (rw n c.in-Ok.ensures.lists),
+    )
