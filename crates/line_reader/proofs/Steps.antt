@@ -71,4 +71,4 @@ line_from_text before now line found.Line h t = (t.0, h, t.1)
 line_from_text before now line found.Last h t = (last_found before now line h t.0 t.1, t.2)
 line_from_text before now line found.Long h t = (long_found before now line h t.0 t.1, t.1)
 line_from_text before now line found.End h t = end_found before now t
-line_from_text before now line found.Failed h t = (t, h)
+line_from_text before now line found.Failed h t = (t.0, h, t.1)

@@ -28,7 +28,7 @@ LineTextFrom before now line found.Line = Consumes before now (line ++ 10 ∷ []
 LineTextFrom before now line found.Last = IsLast before now line × (0 < length line) × (length line ≤ 4096)
 LineTextFrom before now line found.Long = Consumes before now line × (4096 < length line)
 LineTextFrom before now line found.End = IsLast before now []
-LineTextFrom before now line found.Failed = Consumes before now line
+LineTextFrom before now line found.Failed = Consumes before now line × (length line ≤ 4096)
 
 -- the first line of the text begins so
 abbrev pub LineBegins : List ℕ → List ℕ → Type 0
@@ -40,4 +40,4 @@ LineFrom before now line found.Line = Consumes before now (line ++ 10 ∷ []) ×
 LineFrom before now line found.Last = IfSome before (λ text. lines_of text ≡ line ∷ []) × (length line ≤ 4096)
 LineFrom before now line found.Long = IfSome before (λ text. LineBegins text line) × (4096 < length line)
 LineFrom before now line found.End = IfSome before (λ text. lines_of text ≡ [])
-LineFrom before now line found.Failed = Consumes before now line × IsUnbroken line
+LineFrom before now line found.Failed = Consumes before now line × IsUnbroken line × (length line ≤ 4096)

@@ -1,9 +1,7 @@
-pub mod Bounds
-pub mod Choosing
-pub mod Costing
-pub mod FlatLoads
-pub mod Loading
-pub mod Outcomes
+pub mod Fronts
 pub mod Progressing
-pub mod Turning
+pub mod Refusing
+pub mod Running
+pub mod Scripts
+pub mod Texts
 pub mod Written

@@ -1,27 +1,19 @@
 //! The program: plans by a script from standard input, and writes the report to standard output.
 //!
-//! `run` is the top call, and its clause is the main theorem: the bytes written are the text defined from
-//! the lines alone. Today it takes the first path of the planner, a script of thirteen lines for one year,
-//! one flat period and one candidate of one block; the simulation, the costs and the choice of that form
-//! are private parts, in the manual's words (MERSIM, DYNPRO; IAEA Computer Manual Series No. 16).
+//! `run` is the top call, and its clause is the main theorem: the bytes written are the text defined from the
+//! lines alone, and each key is simulated once. It reads lines (`line_reader`, `deck_lines`), hands each to a session
+//! (`wasp_session`), and puts what the session says; what a script is and how it ends is defined here.
 #![tactic(auto)]
 
 ghost use Rattle.std.specs.Prelude.{◌≡◌};
 
-mod case;
-mod choose;
-mod costs;
 mod putting;
-mod report;
-mod script;
-mod simulate;
 mod status;
 mod top;
 mod turn;
 mod words;
 
-pub use choose::chosen_is_least;
-pub use simulate::flat_load_is_load_curve;
+use sim_engine::PlainEngine;
 pub use status::{Ending, Status};
 use std::alloc::Global;
 use std::process::ExitCode;
@@ -54,6 +46,7 @@ fn main(rt: HostRuntime) -> ExitCode {
     };
     let mut source = StdSource::new(rt.reader());
     let mut sink = StdSink::new(io::writer(&rt));
-    let status = run(&rt, alloc, &words, &mut source, &mut sink);
+    let mut engines = [PlainEngine::new(alloc)];
+    let status = run(&rt, alloc, &words, &mut engines, &mut source, &mut sink);
     ExitCode::from(status.exit())
 }

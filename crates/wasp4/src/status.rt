@@ -21,9 +21,9 @@ pub(crate) enum Turn {
 pub enum Status {
     /// The script was read to its end.
     Done,
-    /// A check said no. No command that says so is built yet.
+    /// A check said no, which no line of a plan does.
     CheckNo,
-    /// A line of the script is not the line of its number; the text shows which.
+    /// A line of the script has a fault, or its END is missing; the text shows which.
     Malformed,
     /// The words of the command line are none of the forms.
     BadWords,

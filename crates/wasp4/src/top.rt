@@ -1,19 +1,21 @@
 //! The top call.
-ghost use Rattle.std.specs.Prelude.{◌≡◌, ◌↔◌, true, false, IfOk, OnErr, Ok, Some};
+ghost use Rattle.std.specs.Prelude.{◌≡◌, ◌↔◌, ◌+◌, ◌^◌, ◌<◌, ◌≤◌, true, false, drop, length, slice_get, IfOk, IfSome, OnErr, Ok, Some};
 ghost use Rattle.wasp_io.specs.Causes.{HasCause};
 ghost use Rattle.wasp4.specs.Out as spec;
 ghost use Rattle.wasp4.specs.Progress.{Answers, PutAs, SaysUsage, StopsWithin};
+ghost use Rattle.wasp4.specs.Work.{first_work};
 
 use crate::putting::put_all;
-use crate::script::Script;
 use crate::status::{Status, Turn};
-use crate::turn::{LAST_LINE, turn};
+use crate::turn::{MOST_LINES, past_lines, turn};
 use crate::words::CommandWords;
 use line_reader::ByteReader;
+use sim_engine::SimEngine;
 use std::alloc::Global;
 use std::thread::Threads;
 use wasp_fixed::OutOfMemory;
 use wasp_io::{Sink, Source};
+use wasp_session::{Command, Session};
 
 /// The line that is written where the words of the command line are none of the forms.
 const USAGE: &[u8] = b"USAGE plan [--workers N] | check | trial SEED YEARS CANDIDATES\n";
@@ -34,28 +36,36 @@ fn put_turn<K: Sink>(sink: &mut K, text: &[u8], turn: Option<Turn>) -> Option<St
 }
 
 /// Reads a script and writes what it is answered with, line by line.
-fn read_script<S: Source, K: Sink>(
+fn read_script<E: SimEngine, S: Source, K: Sink>(
     alloc: Global,
+    engines: &mut [E],
     source: &mut S,
     sink: &mut K,
 ) -> Result<Status, OutOfMemory>
-    ensures answer { IfOk result (λ status. Answers (S.left source.old) (S.left source.new) (K.written sink.old) (K.written sink.new) spec.start 1 status) }
-    ensures err { OnErr result (StopsWithin (S.left source.old) (K.written sink.old) (K.written sink.new) spec.start 1) }
+    requires some { 1 ≤ length engines.old }
+    requires most { length engines.old ≤ 64 }
+    requires simulated { IfSome (slice_get engines.old 0) (λ e. E.simulated e < 2 ^ 63) }
+    requires detailed { IfSome (slice_get engines.old 0) (λ e. E.detailed e < 2 ^ 63) }
+    ensures answer { IfOk result (λ status. Answers (S.left source.old) (S.left source.new) (K.written sink.old) (K.written sink.new) (first_work (λ e. record { simulated = E.simulated e; detailed = E.detailed e; tape = E.tape e; runs = E.runs e }) engines.old) (first_work (λ e. record { simulated = E.simulated e; detailed = E.detailed e; tape = E.tape e; runs = E.runs e }) engines.new) status) }
+    ensures err { OnErr result (StopsWithin (S.left source.old) (K.written sink.old) (K.written sink.new)) }
     ensures read { HasCause (S.faults source.old) (S.faults source.new) (result ≡ Ok Status.ReadFault) }
     ensures write { HasCause (K.faults sink.old) (K.faults sink.new) (result ≡ Ok Status.WriteFault) }
 {
     let mut reader = ByteReader::new();
-    let mut script = Script::new(alloc);
+    let mut session = Session::start(alloc, Command::Plan);
     let mut line = Vec::new(alloc);
     let mut text = Vec::new(alloc);
-    for number in 1..LAST_LINE {
+    for number in 0..MOST_LINES {
+        // Its reading tells the proof that the engine's counts have room for a PLAN.
+        let _plans = session.plans();
         text.clear();
         let turn = turn(
             alloc,
             &mut reader,
             source,
-            &mut script,
-            number,
+            &mut session,
+            number + 1,
+            engines,
             &mut line,
             &mut text,
         )?;
@@ -64,15 +74,7 @@ fn read_script<S: Source, K: Sink>(
         }
     }
     text.clear();
-    let turn = turn(
-        alloc,
-        &mut reader,
-        source,
-        &mut script,
-        LAST_LINE,
-        &mut line,
-        &mut text,
-    )?;
+    let turn = past_lines(&mut reader, source, &session, &mut text)?;
     match put_turn(sink, &text, turn) {
         Some(status) => Ok(status),
         None => unreachable!(),
@@ -81,35 +83,43 @@ fn read_script<S: Source, K: Sink>(
 
 /// Plans by a script: reads its lines from the source and writes the text that they define to the sink.
 ///
-/// Today the words are the one word `plan`, and the script is the thirteen lines of one year, one flat
-/// period and one candidate of one block; `docs/FORMATS.md` has them. With accepted words, bytes told and
-/// no rise of either count the status is `Done` or `Malformed` (or `OutOfMemory`), and the sink has gained
-/// exactly the text defined from the bytes that the source had left. After `ReadFault` it has gained the
-/// text of the lines taken whole, after `WriteFault` and `OutOfMemory` a front of the whole text, at
-/// `BadWords` the usage line or a front of it.
-pub fn run<R: Threads + Sync, S: Source, K: Sink>(
+/// The words are the one word `plan`, and the first engine works. With accepted words, bytes told and no rise of
+/// either count of faults the status is `Done` or `Malformed` (or `OutOfMemory`), and the sink has gained exactly
+/// the text defined from the bytes that the source had left: for each PLAN line its report or its refusal, on the
+/// deck as edited so far, and the closing. The engine has then simulated each key that the PLAN lines demand once
+/// and nothing else, and their number is the one that is printed. After `ReadFault` the sink has gained the text
+/// of the lines taken whole, after `WriteFault` and `OutOfMemory` a front of the whole text, at `BadWords`, also
+/// where there is no engine, the usage line or a front of it. `docs/FORMATS.md` has the lines.
+pub fn run<E: SimEngine, R: Threads + Sync, S: Source, K: Sink>(
     _rt: &R,
     alloc: Global,
     words: &CommandWords,
+    engines: &mut [E],
     source: &mut S,
     sink: &mut K,
 ) -> Status
-    ensures words { (result ≡ Status.BadWords) ↔ (spec.is_plan words.now ≡ false) }
-    // Then nothing is read, and the usage line is written, or a front of it where the sink failed.
+    requires simulated { IfSome (slice_get engines.old 0) (λ e. E.simulated e < 2 ^ 63) }
+    requires detailed { IfSome (slice_get engines.old 0) (λ e. E.detailed e < 2 ^ 63) }
+    ensures words { (result ≡ Status.BadWords) ↔ (spec.is_accepted words.now (length engines.old) ≡ false) }
+
+    // Then nothing is read or simulated, and the usage line is written, or a front of it where the sink failed.
     ensures unread { result ≡ Status.BadWords → source.new ≡ source.old }
+    ensures idle { result ≡ Status.BadWords → engines.new ≡ engines.old }
     ensures usage { result ≡ Status.BadWords → SaysUsage (K.written sink.old) (K.written sink.new) (K.faults sink.old) (K.faults sink.new) }
 
-    // The headline: what is written is the text that the lines define.
-    ensures answer { spec.is_plan words.now ≡ true → Answers (S.left source.old) (S.left source.new) (K.written sink.old) (K.written sink.new) spec.start 1 result }
+    // The headline: what is written is the text that the lines define, and each key was simulated once.
+    ensures answer { spec.is_accepted words.now (length engines.old) ≡ true → Answers (S.left source.old) (S.left source.new) (K.written sink.old) (K.written sink.new) (first_work (λ e. record { simulated = E.simulated e; detailed = E.detailed e; tape = E.tape e; runs = E.runs e }) engines.old) (first_work (λ e. record { simulated = E.simulated e; detailed = E.detailed e; tape = E.tape e; runs = E.runs e }) engines.new) result }
+    ensures engines { length engines.new ≡ length engines.old }
+    ensures others { drop 1 engines.new ≡ drop 1 engines.old }
 
     ensures read { HasCause (S.faults source.old) (S.faults source.new) (result ≡ Status.ReadFault) }
     ensures write { HasCause (K.faults sink.old) (K.faults sink.new) (result ≡ Status.WriteFault) }
 {
-    if !words.is_plan() {
+    if !words.is_plan() || engines.is_empty() {
         let _ = put_all(sink, USAGE);
         return Status::BadWords;
     }
-    match read_script(alloc, source, sink) {
+    match read_script(alloc, &mut engines[..1], source, sink) {
         Ok(status) => status,
         Err(OutOfMemory) => Status::OutOfMemory,
     }

@@ -1,100 +1,179 @@
 //! One line of the script, from the source to what it is answered with.
-ghost use Rattle.std.specs.Prelude.{◌≡◌, ◌≢◌, ◌+◌, ◌∷◌, ◌≤◌, [], ℕ, List, IfOk, OnOk, None, Ok, Some, length};
+ghost use Rattle.std.specs.Prelude.{◌≡◌, ◌≢◌, ◌+◌, ◌<◌, ◌≤◌, ◌++◌, [], List, ℕ, IfOk, IfSome, OnOk, None, Ok, Some, length, slice_get};
 ghost use Rattle.wasp_io.specs.Causes.{HasCause};
 ghost use Rattle.line_reader.specs.Reading.{ahead};
-ghost use Rattle.wasp4.specs.Hearing.{by_turn};
-ghost use Rattle.wasp4.specs.Out.{malformed_text, outcome_from};
-ghost use Rattle.wasp4.specs.Progress.{TurnFrom};
+ghost use Rattle.deck_lines.specs.Grammar.{IsLine};
+ghost use Rattle.deck_lines.specs.LineFault.{Gives};
+ghost use Rattle.deck_lines.specs.declared.line.Line.{Line as Stated};
+ghost use Rattle.deck_lines.specs.declared.line.Line.TheVariants as lines;
+ghost use Rattle.report_text.specs.Lines.{keys_line};
+ghost use Rattle.report_text.specs.Refusals.{malformed_line};
+ghost use Rattle.wasp_session.specs.Steps.{HasCountsLeft};
+ghost use Rattle.wasp4.specs.Progress.{AnswersLine, TurnFrom};
+ghost use Rattle.wasp4.specs.Script.{stated};
+ghost use Rattle.wasp4.specs.Work.{HasRun, Work, first_work};
 
-use crate::report::{push_keys, push_malformed};
-use crate::script::{Heard, Script};
 use crate::status::{Ending, Turn};
-use line_reader::{ByteReader, Found, next_line};
+use deck_lines::{Line, LineError, LineFault, LineKind, Mode, read_line};
+use line_reader::{ByteReader, Found, Next, next_line};
+use report_text::{write_keys, write_malformed};
+use sim_engine::SimEngine;
 use std::alloc::Global;
 use wasp_fixed::OutOfMemory;
 use wasp_io::Source;
+use wasp_session::{Session, Step};
 
-/// The number of the line that ends a script.
-pub(crate) const LAST_LINE: u64 = 13;
+/// The most lines of a script.
+pub(crate) const MOST_LINES: u64 = 100_000;
 
-/// Says that line `number` is missing or not the line of its number.
-fn refuse(
-    alloc: Global,
-    script: &Script,
+/// The most PLAN lines of a script.
+const MOST_PLANS: u64 = 64;
+
+/// Says what is wrong with a line, by its number, and how many keys there were.
+pub(crate) fn refuse(
+    session: &Session,
     number: u64,
+    fault: &LineFault,
     text: &mut Vec<u8>,
 ) -> Result<(), OutOfMemory>
-    ensures { OnOk result (text.new.items ≡ malformed_text number script.now.keys) }
+    ensures { OnOk result (text.new.items ≡ (text.old.items ++ malformed_line number fault.now) ++ keys_line (length session.now.kept)) }
 {
-    text.clear();
-    push_malformed(alloc, number, script.keys(), text)
+    write_malformed(number, fault, text)?;
+    write_keys(session.keys(), text)
 }
 
-/// Answers a line in the text.
-fn reply(
+/// The line that bytes are behind those that the session has gone through.
+fn state(alloc: Global, session: &Session, bytes: &[u8]) -> Result<Line, LineError>
+    ensures exact { Gives (λ l. l) result (stated session.now.plans bytes.now) }
+    ensures in_form { IfOk result (λ l. IsLine l) }
+    ensures plans { result ≡ Ok lines.Plan → session.now.plans < 64 }
+{
+    let line = read_line(alloc, Mode::Plan, bytes)?;
+    if matches!(line, Line::Plan) && MOST_PLANS <= session.plans() {
+        return Err(LineError::Fault(LineFault {
+            kind: LineKind::Many,
+            column: 1,
+        }));
+    }
+    Ok(line)
+}
+
+/// Answers the bytes of a line in the text.
+fn answer<E: SimEngine>(
     alloc: Global,
-    script: &mut Script,
+    session: &mut Session,
     number: u64,
-    line: &[u8],
+    bytes: &[u8],
+    engines: &mut [E],
     text: &mut Vec<u8>,
 ) -> Result<Turn, OutOfMemory>
-    requires first { 1 ≤ number }
-    requires last { number ≤ LAST_LINE }
-    requires short { length line.now ≤ 4096 }
+    requires last { number ≤ MOST_LINES }
     requires clear { text.old.items ≡ [] }
-    ensures leads { IfOk result (λ turn. (lines : List (List ℕ)) → outcome_from script.old number (line.now ∷ lines)
-        ≡ by_turn turn text.new.items (outcome_from script.new (number + 1) lines)) }
-    ensures over { number ≡ LAST_LINE → result ≢ Ok Turn.Goes }
+    requires some { 1 ≤ length engines.old }
+    requires most { length engines.old ≤ 64 }
+    requires counts { IfSome (slice_get engines.old 0) (λ e. HasCountsLeft (E.simulated e) (E.detailed e)) }
+    ensures answer { (read : List Stated) (said : List ℕ) (start : Work) → number ≡ length read + 1
+        → HasRun read session.old said start (first_work (λ e. record { simulated = E.simulated e; detailed = E.detailed e; tape = E.tape e; runs = E.runs e }) engines.old)
+        → IfOk result (λ turn. AnswersLine read bytes.now session.new (said ++ text.new.items) start (first_work (λ e. record { simulated = E.simulated e; detailed = E.detailed e; tape = E.tape e; runs = E.runs e }) engines.new) turn) }
 {
-    match script.hear(number, line, text)? {
-        Heard::Goes => Ok(Turn::Goes),
-        Heard::Ends => {
-            text.clear();
-            push_keys(alloc, script.keys(), text)?;
-            Ok(Turn::Over(Ending::Done))
-        }
-        Heard::Faulty => {
-            refuse(alloc, script, number, text)?;
+    match state(alloc, session, bytes) {
+        Ok(line) => match session.line(line, engines, text)? {
+            Step::Go => Ok(Turn::Goes),
+            Step::Ended => Ok(Turn::Over(Ending::Done)),
+        },
+        Err(LineError::OutOfMemory) => Err(OutOfMemory),
+        Err(LineError::Fault(fault)) => {
+            refuse(session, number, &fault, text)?;
             Ok(Turn::Over(Ending::Malformed))
         }
     }
 }
 
+/// Says that line `number` is missing, and how many keys there were.
+fn refuse_end(session: &Session, number: u64, text: &mut Vec<u8>) -> Result<(), OutOfMemory>
+    ensures { OnOk result (text.new.items ≡ (text.old.items ++ malformed_line number (record { kind = LineKind.NoEnd; column = 1 })) ++ keys_line (length session.now.kept)) }
+{
+    let fault = LineFault {
+        kind: LineKind::NoEnd,
+        column: 1,
+    };
+    refuse(session, number, &fault, text)
+}
+
 /// Reads the line of a number, and answers it in the text. `None` is a source that failed.
-pub(crate) fn turn<S: Source>(
+pub(crate) fn turn<E: SimEngine, S: Source>(
     alloc: Global,
     reader: &mut ByteReader,
     source: &mut S,
-    script: &mut Script,
+    session: &mut Session,
     number: u64,
+    engines: &mut [E],
     line: &mut Vec<u8>,
     text: &mut Vec<u8>,
 ) -> Result<Option<Turn>, OutOfMemory>
-    requires first { 1 ≤ number }
-    requires last { number ≤ LAST_LINE }
+    requires last { number ≤ MOST_LINES }
     requires clear { text.old.items ≡ [] }
-    ensures turn { IfOk result (λ turn. TurnFrom (ahead reader.old (S.left source.old)) (ahead reader.new (S.left source.new)) script.old number script.new text.new.items turn) }
+    requires some { 1 ≤ length engines.old }
+    requires most { length engines.old ≤ 64 }
+    requires counts { IfSome (slice_get engines.old 0) (λ e. HasCountsLeft (E.simulated e) (E.detailed e)) }
+    ensures turn { (read : List Stated) (said : List ℕ) (start : Work) → number ≡ length read + 1
+        → HasRun read session.old said start (first_work (λ e. record { simulated = E.simulated e; detailed = E.detailed e; tape = E.tape e; runs = E.runs e }) engines.old)
+        → IfOk result (λ turn. TurnFrom (ahead reader.old (S.left source.old)) (ahead reader.new (S.left source.new)) read session.new (said ++ text.new.items) start (first_work (λ e. record { simulated = E.simulated e; detailed = E.detailed e; tape = E.tape e; runs = E.runs e }) engines.new) turn) }
     ensures cause { HasCause (S.faults source.old) (S.faults source.new) (result ≡ Ok None) }
     ensures nothing_kept { result ≡ Ok None → reader.new ≡ [] }
-    ensures over { number ≡ LAST_LINE → result ≢ Ok (Some Turn.Goes) }
 {
     match next_line(reader, source, line)? {
-        Found::Line => Ok(Some(reply(alloc, script, number, line, text)?)),
-        Found::Long => {
-            refuse(alloc, script, number, text)?;
-            Ok(Some(Turn::Over(Ending::Malformed)))
-        }
-        Found::Last => match reply(alloc, script, number, line, text)? {
+        Found::Line => Ok(Some(answer(alloc, session, number, line, engines, text)?)),
+        Found::Last => match answer(alloc, session, number, line, engines, text)? {
             Turn::Goes => {
-                push_malformed(alloc, number + 1, script.keys(), text)?;
+                refuse_end(session, number + 1, text)?;
                 Ok(Some(Turn::Over(Ending::Malformed)))
             }
             Turn::Over(ending) => Ok(Some(Turn::Over(ending))),
         },
+        Found::Long => {
+            let fault = LineFault {
+                kind: LineKind::Long,
+                column: 4097,
+            };
+            refuse(session, number, &fault, text)?;
+            Ok(Some(Turn::Over(Ending::Malformed)))
+        }
         Found::End => {
-            refuse(alloc, script, number, text)?;
+            refuse_end(session, number, text)?;
             Ok(Some(Turn::Over(Ending::Malformed)))
         }
         Found::Failed => Ok(None),
+    }
+}
+
+/// What stands behind the last line that a script may have. `None` is a source that failed.
+pub(crate) fn past_lines<S: Source>(
+    reader: &mut ByteReader,
+    source: &mut S,
+    session: &Session,
+    text: &mut Vec<u8>,
+) -> Result<Option<Turn>, OutOfMemory>
+    requires clear { text.old.items ≡ [] }
+    ensures turn { (read : List Stated) (said : List ℕ) (start now : Work) → MOST_LINES ≡ length read → HasRun read session.now said start now
+        → IfOk result (λ turn. TurnFrom (ahead reader.old (S.left source.old)) (ahead reader.new (S.left source.new)) read session.now (said ++ text.new.items) start now turn) }
+    ensures over { result ≢ Ok (Some Turn.Goes) }
+    ensures cause { HasCause (S.faults source.old) (S.faults source.new) (result ≡ Ok None) }
+    ensures nothing_kept { result ≡ Ok None → reader.new ≡ [] }
+{
+    match reader.next(source) {
+        Next::Byte(_) => {
+            let fault = LineFault {
+                kind: LineKind::ManyLines,
+                column: 1,
+            };
+            refuse(session, MOST_LINES + 1, &fault, text)?;
+            Ok(Some(Turn::Over(Ending::Malformed)))
+        }
+        Next::End => {
+            refuse_end(session, MOST_LINES + 1, text)?;
+            Ok(Some(Turn::Over(Ending::Malformed)))
+        }
+        Next::Failed => Ok(None),
     }
 }

@@ -1,27 +1,35 @@
-use Rattle.std.proofs.Common.{◌+◌}
-use Rattle.wasp4.specs.Out.{onward, malformed}
-use Rattle.wasp4.proofs.Turning.{ends_as, known_long, known_end, known_last}
-use Rattle.wasp4.proofs.Progressing.{line_answered}
+use Rattle.std.proofs.Common.{◌<◌, length, arith}
+use Rattle.deck_lines.specs.LineFault.{fault}
+use Rattle.deck_lines.specs.declared.fault.LineKind.TheVariants as kinds
+use Rattle.wasp4.proofs.Refusing.{at_end, last_goes, line_turn, over_turn, refused}
+use Rattle.wasp4.proofs.Scripts.{long_here}
 use Rattle.wasp4.proofs.turn.turn.Goals as goal
 
-pub returns-in_ok-reply-in-Line-clause-turn : goal.returns-in_ok-reply-in-Line-clause-turn
-returns-in_ok-reply-in-Line-clause-turn g c =
-    let read = rw c.in-Line.is at c.in_ok-next_line.ensures.line in
-    line_answered _ _ c.args.script.now c.reply.new.script c.args.number _ c.reply.new.text.items _ read.1 read.0 (rw c.deref.ensures.value at c.in_ok-reply-in-Line.ensures.leads)
+pub returns-in_ok-answer-in-Line-clause-turn : goal.returns-in_ok-answer-in-Line-clause-turn
+returns-in_ok-answer-in-Line-clause-turn g c = λ read said start number run.
+    let found = rw c.in-Line.is at c.in_ok-next_line.ensures.line in
+    line_turn _ _ read _ _ _ start _ _ found.1 found.0 (rw c.deref.ensures.value at c.in_ok-answer-in-Line.ensures.answer read said start number run)
+
+pub returns-in_ok-refuse_end-in-Goes-clause-turn : goal.returns-in_ok-refuse_end-in-Goes-clause-turn
+returns-in_ok-refuse_end-in-Goes-clause-turn g c = λ read said start number run.
+    let found = rw c.in-Last.is at c.in_ok-next_line.ensures.line in
+    let answered = rw (c.in-Goes.is, c.deref-in-Last.ensures.value) at c.in_ok-answer-in-Last.ensures.answer read said start number run in
+    last_goes _ read _ c.answer-in-Last.new.session said c.answer-in-Last.new.text.items _ start _ _ number found.0 answered c.in_ok-refuse_end-in-Goes.ensures
+
+pub returns-in-Over-clause-turn : goal.returns-in-Over-clause-turn
+returns-in-Over-clause-turn g c = λ read said start number run.
+    let found = rw c.in-Last.is at c.in_ok-next_line.ensures.line in
+    let answered = rw (c.in-Over.is, c.deref-in-Last.ensures.value) at c.in_ok-answer-in-Last.ensures.answer read said start number run in
+    over_turn _ read _ _ start _ _ found.0 answered
 
 pub returns-in_ok-refuse-in-Long-clause-turn : goal.returns-in_ok-refuse-in-Long-clause-turn
-returns-in_ok-refuse-in-Long-clause-turn g c =
-    let read = rw c.in-Long.is at c.in_ok-next_line.ensures.line in
-    ends_as _ c.args.script.now c.args.number _ (malformed c.args.script.now c.args.number) c.in_ok-refuse-in-Long.ensures (known_long _ c.args.script.now c.args.number _ read.0 read.1)
+returns-in_ok-refuse-in-Long-clause-turn g c = λ read said start number run.
+    let found = rw c.in-Long.is at c.in_ok-next_line.ensures.line in
+    let few : length read < 100000 = omega (arith, number, c.requires.last) in
+    refused _ read c.args.session.now said c.args.text.now.items c.refuse.new.text.items start _ c.args.number (fault kinds.Long 4097) run number c.requires.clear c.in_ok-refuse-in-Long.ensures
+    (long_here read c.args.session.now.plans _ _ few run.plans found.1 found.0)
 
-pub returns-in_ok-refuse-in-End-clause-turn : goal.returns-in_ok-refuse-in-End-clause-turn
-returns-in_ok-refuse-in-End-clause-turn g c =
-    ends_as _ c.args.script.now c.args.number _ (malformed c.args.script.now c.args.number) c.in_ok-refuse-in-End.ensures (known_end _ c.args.script.now c.args.number (rw c.in-End.is at c.in_ok-next_line.ensures.line))
-
-pub returns-in_ok-push_malformed-in-Goes-clause-turn : goal.returns-in_ok-push_malformed-in-Goes-clause-turn
-returns-in_ok-push_malformed-in-Goes-clause-turn g c =
-    let read = rw c.in-Last.is at c.in_ok-next_line.ensures.line in
-    let replied = rw (c.in-Goes.is, c.deref-in-Last.ensures.value) at c.in_ok-reply-in-Last.ensures.leads in
-    let said = rw c.keys.ensures at c.in_ok-push_malformed-in-Goes.ensures in
-    ends_as _ c.args.script.now c.args.number _ (onward c.reply-in-Last.new.text.items (malformed c.reply-in-Last.new.script (c.args.number + 1))) said
-    (known_last _ c.args.script.now c.reply-in-Last.new.script c.args.number _ c.reply-in-Last.new.text.items read.0 replied)
+pub returns-in_ok-refuse_end-in-End-clause-turn : goal.returns-in_ok-refuse_end-in-End-clause-turn
+returns-in_ok-refuse_end-in-End-clause-turn g c = λ read said start number run.
+    let found = rw c.in-End.is at c.in_ok-next_line.ensures.line in
+    refused _ read c.args.session.now said c.args.text.now.items _ start _ c.args.number (fault kinds.NoEnd 1) run number c.requires.clear c.in_ok-refuse_end-in-End.ensures (at_end _ read found)

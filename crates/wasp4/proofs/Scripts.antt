@@ -1,0 +1,101 @@
+-- What comes of one line more of a script.
+use Rattle.std.proofs.Common.{◌≡◌, ◌≢◌, ℕ, ◌<◌, false, List, [], ◌∷◌, ◌++◌, length, Option, None, Some, refl, sym, ap, subst, ◌∙◌, append_assoc, arith}
+use Rattle.std.specs.Prelude.{Result, Ok, Err, IfSome, nat_lt, if◌then◌else◌, Bool}
+use Rattle.std.proofs.lemmas.Bool.{le-ltb, lt-ltb}
+use Rattle.std.proofs.lemmas.List.{append-nil, length-append}
+use Rattle.line_reader.specs.Lines.{lines_of}
+use Rattle.line_reader.specs.Reading.{LineBegins}
+use Rattle.deck_lines.specs.Grammar.{line_of}
+use Rattle.deck_lines.specs.LineFault.{fault}
+use Rattle.deck_lines.specs.declared.fault.LineFault.{LineFault}
+use Rattle.deck_lines.specs.declared.fault.LineKind.TheVariants as kinds
+use Rattle.deck_lines.specs.declared.line.Line.{Line}
+use Rattle.deck_lines.specs.declared.line.Line.TheVariants as lines
+use Rattle.wasp_session.specs.Said.{plan_count}
+use Rattle.wasp4.specs.Progress.{Leads}
+use Rattle.wasp4.specs.Script.{Script, ends, line_behind, line_then, script_behind, stated, stops}
+
+pub no_end : (read : List Line) → script_behind read [] ≡ stops read (fault kinds.NoEnd 1)
+unfolding script_behind
+no_end read = refl
+
+pub line_more : (read : List Line) (bytes : List ℕ) (more : List (List ℕ)) → script_behind read (bytes ∷ more) ≡ line_then read (λ ls. script_behind ls more) (line_behind read bytes)
+unfolding script_behind
+line_more read bytes more = refl
+
+-- within the number of lines a line is what its bytes state
+within : (read : List Line) (plans : ℕ) (bytes : List ℕ) → length read < 100000 → plans ≡ plan_count read → line_behind read bytes ≡ stated plans bytes
+within read plans bytes few e =
+    ap (λ (b : Bool). if b then stated (plan_count read) bytes else Err (fault kinds.ManyLines 1)) (lt-ltb (length read) 100000 few)
+    ∙ ap (λ (n : ℕ). stated n bytes) (sym e)
+
+pub faulty_here : (read : List Line) (plans : ℕ) (bytes : List ℕ) (f : LineFault) → length read < 100000 → plans ≡ plan_count read → stated plans bytes ≡ Err f
+    → (more : List (List ℕ)) → script_behind read (bytes ∷ more) ≡ stops read f
+faulty_here read plans bytes f few e is more =
+    line_more read bytes more ∙ ap (line_then read (λ ls. script_behind ls more)) (within read plans bytes few e ∙ is)
+
+pub ends_here : (read : List Line) (plans : ℕ) (bytes : List ℕ) → length read < 100000 → plans ≡ plan_count read → stated plans bytes ≡ Ok lines.End
+    → (more : List (List ℕ)) → script_behind read (bytes ∷ more) ≡ ends read
+ends_here read plans bytes few e is more =
+    line_more read bytes more ∙ ap (line_then read (λ ls. script_behind ls more)) (within read plans bytes few e ∙ is)
+
+then_goes : (read : List Line) (line : Line) (rest : List Line → Script) → line ≢ lines.End → line_then read rest (Ok line) ≡ rest (read ++ line ∷ [])
+then_goes read lines.End rest ne = absurd (ne refl)
+then_goes read lines.Blank rest ne = refl
+then_goes read (lines.Set s) rest ne = refl
+then_goes read (lines.Drop h) rest ne = refl
+then_goes read lines.Plan rest ne = refl
+then_goes read (lines.Check c) rest ne = refl
+then_goes read (lines.Cert l) rest ne = refl
+then_goes read lines.Skip rest ne = refl
+then_goes read lines.EndCheck rest ne = refl
+
+pub goes_on : (read : List Line) (plans : ℕ) (bytes : List ℕ) (line : Line) → length read < 100000 → plans ≡ plan_count read → stated plans bytes ≡ Ok line → line ≢ lines.End
+    → Leads read bytes line
+goes_on read plans bytes line few e is ne more =
+    line_more read bytes more ∙ ap (line_then read (λ ls. script_behind ls more)) (within read plans bytes few e ∙ is) ∙ then_goes read line (λ ls. script_behind ls more) ne
+
+-- a line of more than 4,096 bytes
+long_is : (plans : ℕ) (bytes : List ℕ) → 4096 < length bytes → stated plans bytes ≡ Err (fault kinds.Long 4097)
+unfolding line_of
+long_is plans bytes long = rw (lt-ltb 4096 (length bytes) long) refl
+
+pub long_here : (read : List Line) (plans : ℕ) (line : List ℕ) (text : Option (List ℕ)) → length read < 100000 → plans ≡ plan_count read → 4096 < length line
+    → IfSome text (λ t. LineBegins t line) → IfSome text (λ t. script_behind read (lines_of t) ≡ stops read (fault kinds.Long 4097))
+long_here read plans line None few e long begins = tt
+long_here read plans line (Some t) few e long begins =
+    ap (script_behind read) begins.2
+    ∙ faulty_here read plans (line ++ begins.0) (fault kinds.Long 4097) few e (long_is plans (line ++ begins.0) (omega (arith, long, length-append line begins.0))) begins.1
+
+not_below : (n : ℕ) → 100000 ≡ n → nat_lt n 100000 ≡ false
+not_below n e = le-ltb n 100000 (omega (arith, e))
+
+-- the 100,001st line
+pub too_many : (read : List Line) (bytes : List ℕ) (more : List (List ℕ)) → 100000 ≡ length read → script_behind read (bytes ∷ more) ≡ stops read (fault kinds.ManyLines 1)
+too_many read bytes more e =
+    line_more read bytes more
+    ∙ ap (λ (b : Bool). line_then read (λ ls. script_behind ls more) (if b then stated (plan_count read) bytes else Err (fault kinds.ManyLines 1))) (not_below (length read) e)
+
+abbrev Keeping : List Line → Script → Type 0
+Keeping read script = (rest : List Line) × (script.lines ≡ read ++ rest)
+
+keeping_line : (read : List Line) (line : Line) (script : Script) → Keeping (read ++ line ∷ []) script → Keeping read script
+keeping_line read line script h = (line ∷ h.0, h.1 ∙ append_assoc read (line ∷ []) h.0)
+
+keeps_then : (read : List Line) (rest : List Line → Script) (result : Result Line LineFault) → ((ls : List Line) → Keeping ls (rest ls)) → Keeping read (line_then read rest result)
+keeps_then read rest (Err f) h = ([], sym (append-nil read))
+keeps_then read rest (Ok lines.End) h = ([], sym (append-nil read))
+keeps_then read rest (Ok lines.Blank) h = keeping_line read lines.Blank (rest (read ++ lines.Blank ∷ [])) (h (read ++ lines.Blank ∷ []))
+keeps_then read rest (Ok (lines.Set s)) h = keeping_line read (lines.Set s) (rest (read ++ lines.Set s ∷ [])) (h (read ++ lines.Set s ∷ []))
+keeps_then read rest (Ok (lines.Drop g)) h = keeping_line read (lines.Drop g) (rest (read ++ lines.Drop g ∷ [])) (h (read ++ lines.Drop g ∷ []))
+keeps_then read rest (Ok lines.Plan) h = keeping_line read lines.Plan (rest (read ++ lines.Plan ∷ [])) (h (read ++ lines.Plan ∷ []))
+keeps_then read rest (Ok (lines.Check c)) h = keeping_line read (lines.Check c) (rest (read ++ lines.Check c ∷ [])) (h (read ++ lines.Check c ∷ []))
+keeps_then read rest (Ok (lines.Cert l)) h = keeping_line read (lines.Cert l) (rest (read ++ lines.Cert l ∷ [])) (h (read ++ lines.Cert l ∷ []))
+keeps_then read rest (Ok lines.Skip) h = keeping_line read lines.Skip (rest (read ++ lines.Skip ∷ [])) (h (read ++ lines.Skip ∷ []))
+keeps_then read rest (Ok lines.EndCheck) h = keeping_line read lines.EndCheck (rest (read ++ lines.EndCheck ∷ [])) (h (read ++ lines.EndCheck ∷ []))
+
+-- a script has the lines that were read, and perhaps others behind them
+pub keeps_lines : (more : List (List ℕ)) (read : List Line) → (rest : List Line) × ((script_behind read more).lines ≡ read ++ rest)
+keeps_lines [] read = subst (Keeping read) (sym (no_end read)) ([], sym (append-nil read))
+keeps_lines (bytes ∷ more) read =
+    subst (Keeping read) (sym (line_more read bytes more)) (keeps_then read (λ ls. script_behind ls more) (line_behind read bytes) (keeps_lines more))
