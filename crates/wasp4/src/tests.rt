@@ -1,6 +1,7 @@
 use crate::{CommandWords, Status, run};
 use deck_check::check;
 use deck_lines::{Deck, Line, Mode, read_line};
+use plant_data::Config;
 use sim_engine::{PlainEngine, SimEngine, TapeEngine};
 use std::alloc::Global;
 use std::test::Fail;
@@ -60,7 +61,10 @@ fn system(alloc: Global) -> Result<YearSystem, Fail> {
             deck.set(statement)?;
         }
     }
-    Ok(check(&deck)?.system(alloc, 1)?)
+    let typed = check(&deck)?;
+    // Its reading tells the proof that there is a year.
+    let _years = typed.years();
+    Ok(typed.system(alloc, 1)?)
 }
 
 #[test]
@@ -175,7 +179,9 @@ fn each_key_is_simulated_once(rt: HostRuntime) -> Result<(), Fail> {
     assert_eq!(rt; runs.len(), 4);
     for count in 0..4usize {
         assert_eq!(rt; runs[count].system, 0);
-        assert_eq!(rt; runs[count].config.get(0), count as u64);
+        let mut config = Config::zero(1);
+        config.set(0, count as u64);
+        assert!(rt; runs[count].config == config);
     }
     Ok(())
 }
