@@ -30,8 +30,10 @@ mod tests;
 /// The words after the program's name; none where they cannot be read, as bytes that are no text.
 fn read_words(rt: &(impl Env + AllocGlobal), alloc: Global) -> Result<CommandWords, OutOfMemory> {
     let mut words = CommandWords::new(alloc);
-    let Ok(args) = env::args(rt) else {
-        return Ok(words);
+    let args = match env::args(rt) {
+        Ok(args) => args,
+        Err(error) if error.kind() == io::ErrorKind::OutOfMemory => return Err(OutOfMemory),
+        Err(_) => return Ok(words),
     };
     for word in args.skip(1) {
         words.push(&word)?;

@@ -131,7 +131,8 @@ fn a_source_that_fails_at_any_take_leaves_whole_reports(rt: HostRuntime) -> Resu
 #[test]
 fn a_sink_that_fails_at_any_put_has_a_front(rt: HostRuntime) -> Result<(), Fail> {
     let report = format!(in rt.alloc(); "PLAN 1\n{CASE}KEYS 3\n")?;
-    for put in 1..20u64 {
+    // 201 bytes of the report and 7 of the closing, 8 at a time.
+    for put in 1..28u64 {
         let failing = [put];
         let edge = Edge {
             failing_puts: &failing,
