@@ -11,7 +11,6 @@ use Rattle.deck_lines.specs.declared.line.Mode.TheVariants as modes
 use Rattle.deck_lines.specs.Words.{words_of, number_of}
 use Rattle.deck_lines.specs.LineFault.{fault}
 use Rattle.deck_lines.specs.Statements.{stated_by, statement_of, fields_onto, groups_onto, name_at}
-use Rattle.deck_lines.specs.FirstPath.{first_line}
 use Rattle.deck_lines.specs.Grammar.{line_of, counts_onto}
 use Rattle.deck_lines.specs.Canonical.{text_of}
 use Rattle.deck_lines.specs.Deck.{deck_at}
@@ -39,17 +38,6 @@ year_31 = refl
 half_a_pair : stated_by 14 (words_of (codes "LOAD 1 100 1 90")) ≡ Err (fault faults.Count 14)
 unfolding statement_of fields_onto groups_onto name_at
 half_a_pair = refl
-
-first_ens : first_line 4 (codes "ENS 07") ≡ Some (record { head = heads.Ens; body = record { name = []; numbers = 7 ∷ [] } })
-unfolding statement_of fields_onto groups_onto name_at
-first_ens = refl
-
-first_has_one_space : first_line 4 (codes "ENS  7") ≡ None
-first_has_one_space = refl
-
-first_has_one_fuel : first_line 6 (codes "FUEL 2 5 5") ≡ None
-unfolding statement_of fields_onto groups_onto name_at
-first_has_one_fuel = refl
 
 -- ---- the deck
 

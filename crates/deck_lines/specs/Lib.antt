@@ -2,7 +2,6 @@ pub mod Words
 pub mod LineFault
 pub mod Body
 pub mod Statements
-pub mod FirstPath
 pub mod Grammar
 pub mod Canonical
 pub mod Deck

@@ -9,7 +9,7 @@
 //! ranges, or its first fault; and a `Deck` is the map that the script defines by looking back.
 //!
 //! A line has at most 4,096 bytes, a number 18 digits, a name 8 bytes. Whether a deck is complete and
-//! fits together is looked at above. `read_first` reads eleven lines of one form alone.
+//! fits together is looked at above.
 #![tactic(auto)]
 
 mod behind;
@@ -17,7 +17,6 @@ mod body;
 mod deck;
 mod fault;
 mod fields;
-mod first;
 mod form;
 mod head;
 mod head_word;
@@ -33,7 +32,6 @@ mod tests;
 pub use body::Body;
 pub use deck::{Deck, decks_follow_scripts};
 pub use fault::{LineError, LineFault, LineKind};
-pub use first::read_first;
 pub use head::Head;
 pub use line::{CertLine, Line, MAX_LINE, Mode, read_line, statements_read_back};
 pub use statement::Statement;

@@ -1,8 +1,8 @@
 //! What the words of a line state.
-ghost use Rattle.std.specs.Prelude.{◌≡◌, IfOk};
+ghost use Rattle.std.specs.Prelude.{◌≡◌};
 ghost use Rattle.deck_lines.specs.LineFault.{Gives};
 ghost use Rattle.deck_lines.specs.Statements as spec;
-ghost use Rattle.deck_lines.specs.Statements.{IsStatement, head_word_of};
+ghost use Rattle.deck_lines.specs.Statements.{head_word_of};
 
 use crate::body::Body;
 use crate::fault::{LineError, LineKind};
@@ -48,20 +48,5 @@ pub(crate) fn headed(
     match HeadWord::from_text(first.text) {
         None => Err(LineError::at(LineKind::Word, first.column)),
         Some(word) => statement(alloc, word, end, words),
-    }
-}
-
-/// What the words of a line state.
-pub(crate) fn stated_by(
-    alloc: Global,
-    end: usize,
-    words: &mut Words,
-) -> Result<Statement, LineError>
-    ensures exact { Gives (λ s. s) result (spec.stated_by end words.old) }
-    ensures in_form { IfOk result (λ s. IsStatement s) }
-{
-    match words.next() {
-        None => Err(LineError::at(LineKind::Word, 1)),
-        Some(first) => headed(alloc, first, end, words),
     }
 }

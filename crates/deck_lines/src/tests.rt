@@ -4,7 +4,7 @@ ghost use Rattle.deck_lines.specs.Statements.{IsStatement};
 mod cases;
 
 use crate::line::MAX_LINE;
-use crate::{CertLine, Deck, Head, Line, LineError, Mode, Statement, read_first, read_line};
+use crate::{CertLine, Deck, Head, Line, LineError, Mode, Statement, read_line};
 use plant_data::Config;
 use std::alloc::{AllocError, Global};
 use std::test::Fail;
@@ -167,47 +167,5 @@ fn a_later_statement_takes_the_place_of_the_earlier(rt: HostRuntime) -> Result<(
     assert!(rt; deck.get(&Head::Load(2)).is_none() && deck.get(&Head::Load(3)).is_some());
     deck.drop_head(&Head::Ens);
     assert_eq!(rt; ens(&deck), None);
-    Ok(())
-}
-
-/// Whether the bytes are this line of a first script.
-fn is_first(alloc: Global, place: u64, text: &str) -> Result<bool, AllocError>
-    requires first { 1 ≤ place }
-    requires last { place ≤ 11 }
-{
-    let first = read_first(alloc, place, text.as_bytes()).map_err(|_| AllocError)?;
-    Ok(first.is_some())
-}
-
-/// How many lines are the line of their place, and how many are that of the place before.
-fn count_first(alloc: Global, table: &str) -> Result<(usize, usize), AllocError> {
-    let (mut here, mut before): (usize, usize) = (0, 0);
-    for (i, row) in table.lines().enumerate() {
-        let place = (i as u64).min(10) + 1;
-        if is_first(alloc, place, row)? {
-            here = here.saturating_add(1);
-        }
-        if is_first(alloc, place.max(2) - 1, row)? {
-            before = before.saturating_add(1);
-        }
-    }
-    Ok((here, before))
-}
-
-#[test]
-fn the_lines_of_a_first_script_stand_in_their_places(rt: HostRuntime) -> Result<(), Fail> {
-    // The first line is also tried in its own place where there is none before.
-    assert_eq!(rt; count_first(rt.alloc(), cases::FIRST)?, (11, 1));
-    Ok(())
-}
-
-#[test]
-fn a_first_line_has_one_space_between_words(rt: HostRuntime) -> Result<(), Fail> {
-    let alloc = rt.alloc();
-    assert!(rt; is_first(alloc, 8, "LOAD 1 0400000 1")?);
-    assert!(rt; !is_first(alloc, 8, "LOAD 1  400000 1")?);
-    assert!(rt; !is_first(alloc, 8, "LOAD 1 400000 1 ")?);
-    assert!(rt; !is_first(alloc, 8, "LOAD 1 400000 2")?);
-    assert!(rt; !is_first(alloc, 8, "LOAD 1 400001 1")?);
     Ok(())
 }

@@ -19,6 +19,8 @@ mod judging;
 mod laws;
 mod reading;
 mod steps;
+#[cfg(test)]
+mod tests;
 
 pub use certificate::{Certificate, Named};
 pub use judging::{Verdict, judge};

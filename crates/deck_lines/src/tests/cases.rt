@@ -267,18 +267,3 @@ DROP ENS|Word 1\n\
 # x|Blank\n\
 |Blank\n\
 ";
-
-/// The eleven lines of a first script, in their order.
-pub const FIRST: &str = "\
-YEARS 1\n\
-PERIODS 1\n\
-RATE 0 00\n\
-ENS 10000000\n\
-SHAPE 1 0 10000 10000 10000\n\
-FUEL 1 50000 0\n\
-THERMAL 1 Gas 128 20000 1 0 50000 1 10000 100000 10000 0 50000 50000 10000 100\n\
-LOAD 1 400000 1\n\
-MARGIN 1 1 0 100000\n\
-LOLP 1 1 1000000000 0\n\
-TUNNEL 1 1 128 128\n\
-";
