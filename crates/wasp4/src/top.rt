@@ -88,8 +88,9 @@ fn read_script<E: SimEngine, S: Source, K: Sink>(
 /// the text defined from the bytes that the source had left: for each PLAN line its report or its refusal, on the
 /// deck as edited so far, and the closing. The engine has then simulated each key that the PLAN lines demand once
 /// and nothing else, and their number is the one that is printed. After `ReadFault` the sink has gained the text
-/// of the lines taken whole, after `WriteFault` and `OutOfMemory` a front of the whole text, at `BadWords`, also
-/// where there is no engine, the usage line or a front of it. `docs/FORMATS.md` has the lines.
+/// of the lines taken whole, after `WriteFault` and `OutOfMemory` a front of what is told of the script's first lines
+/// or of the whole text, at `BadWords`, also where there is no engine, the usage line or a front of it.
+/// `docs/FORMATS.md` has the lines.
 pub fn run<E: SimEngine, R: Threads + Sync, S: Source, K: Sink>(
     _rt: &R,
     alloc: Global,
