@@ -4,12 +4,15 @@ use Rattle.std.specs.Fmt.{digits}
 use Rattle.std.specs.Prelude.{codes}
 use Rattle.deck_check.specs.declared.names.PlantId.TheVariants as ids
 use Rattle.deck_lines.specs.declared.fault.LineKind.TheVariants as kinds
+use Rattle.plan_certificate.specs.declared.judging.Verdict.TheVariants.{No, Yes}
 use Rattle.plant_data.specs.declared.row.Row.{Row}
 use Rattle.report_text.specs.Lines.{heading, keys_line}
 use Rattle.report_text.specs.Marks.{marks}
 use Rattle.report_text.specs.Refusals.{malformed_line, refusal_line}
 use Rattle.report_text.specs.Report.{chosen_line, come_line, come_lines, edge_line, gen_line, risk_line, short_line, terms_line}
+use Rattle.report_text.specs.Verdicts.{verdict_line}
 use Rattle.report_text.specs.declared.refusals.Refusal.TheVariants.{Deck, Many, Wide}
+use Rattle.report_text.specs.declared.verdicts.Judged.TheVariants.{Form, Refused, Said}
 
 -- ---- the lines of three gas units, of which two are planned
 
@@ -89,3 +92,21 @@ malformed = refl
 second_plan : heading 2 ++ keys_line 3 ≡ codes "PLAN 2\nKEYS 3\n"
 unfolding digits
 second_plan = refl
+
+-- ---- what checks say
+
+all_hold : verdict_line 1 1 (Said Yes) ≡ codes "CHECK 1 CASE 1 YES\n"
+unfolding digits
+all_hold = refl
+
+last_fails : verdict_line 2 8 (Said (No 7)) ≡ codes "CHECK 2 CASE 8 NO 7\n"
+unfolding digits
+last_fails = refl
+
+faulty_line : verdict_line 64 1 (Form 12) ≡ codes "CHECK 64 CASE 1 NO 0 AT 12\n"
+unfolding digits
+faulty_line = refl
+
+too_wide_to_check : verdict_line 4 2 (Refused (Wide 2 1 1771561)) ≡ codes "CHECK 4 CASE 2 REFUSED 25 TOOWIDE 2 1 1771561\n"
+unfolding digits
+too_wide_to_check = refl
