@@ -1,9 +1,9 @@
 -- What is true of the demands of all cases and years, and which keys they are.
-use Rattle.std.proofs.Common.{◌≡◌, ◌∙◌, ap, sym, refl, subst, ℕ, zero, suc, ◌+◌, ◌-◌, ◌*◌, ◌<◌, ◌≤◌, inl, inr, ⊎_elim, eqb, Bool, true, false, cond, not, List, [], ◌∷◌, ◌++◌, All, Contains, Option, None, Some, filter, length, map, min, slice_get, slice_index, is_none, arith}
+use Rattle.std.proofs.Common.{◌≡◌, ◌∙◌, ap, sym, refl, subst, ℕ, zero, suc, ◌+◌, ◌-◌, ◌*◌, ◌<◌, ◌≤◌, ⊎_elim, eqb, Bool, true, false, cond, not, List, [], ◌∷◌, ◌++◌, All, Contains, Some, filter, length, map, min, slice_get, slice_index, is_none, arith}
 use Rattle.std.specs.List.{flat_map, zip}
 use Rattle.std.proofs.lemmas.List.{length-append, length-map}
 use Rattle.std.proofs.lemmas.List.Elements.{All-append, All-cons, All-contains, All-contains_itself, All-head, All-map, All-nil, All-tail, All-weaker, Contains-append_left, Contains-append_right}
-use Rattle.std.proofs.lemmas.Option.{same_Some, slice_get_cases, slice_get_within}
+use Rattle.std.proofs.lemmas.Option.{same_Some, slice_get_within}
 use Rattle.std.proofs.lemmas.Slice.Zip.{length-zip}
 use Rattle.board_core.specs.declared.row.KeptRow.{KeptRow}
 use Rattle.deck_check.specs.Readings.{Says, cases, system, years}
@@ -14,14 +14,13 @@ use Rattle.sim_sweep.specs.declared.demand.Demand.{Demand}
 use Rattle.wasp_session.proofs.EachSteps.{at_place}
 use Rattle.wasp_session.proofs.KeySteps.{in_cases, in_none, in_rest}
 use Rattle.wasp_session.specs.Keys.{IsKeyOf}
-use Rattle.wasp_session.specs.Listings.{IsOf}
-use Rattle.wasp_session.specs.Steps.{AreCaseLists, AreYearLists, EachAt, FitBook, HasYearRoom, HasYears, IsYearList, all_demands, case_demands, demands_of, year_demands}
+use Rattle.wasp_session.specs.Steps.{AreCaseLists, AreYearLists, FitBook, HasYearRoom, HasYears, IsYearList, all_demands, case_demands, demands_of, year_demands}
 use Rattle.year_system.specs.Code.{code_of}
 use Rattle.year_system.specs.System.{Fits, System}
 
 -- ---- lists of lists
 
-all_flat : {X Y : Type 0} (P : Y → Type 0) (f : X → List Y) (xs : List X) → All (λ x. All P (f x)) xs → All P (flat_map f xs)
+pub all_flat : {X Y : Type 0} (P : Y → Type 0) (f : X → List Y) (xs : List X) → All (λ x. All P (f x)) xs → All P (flat_map f xs)
 all_flat {X} {Y} P f [] all = All-nil P
 all_flat {X} {Y} P f (x ∷ xs) all = All-append P (f x) (flat_map f xs) (All-head (λ (z : X). All P (f z)) x xs all) (all_flat P f xs (All-tail (λ (z : X). All P (f z)) x xs all))
 
@@ -31,7 +30,7 @@ all_split P (x ∷ xs) ys all =
     let rest = all_split P xs ys (All-tail P x (xs ++ ys) all) in
     (All-cons P x xs (All-head P x (xs ++ ys) all) rest.0, rest.1)
 
-flat_all : {X Y : Type 0} (P : Y → Type 0) (f : X → List Y) (xs : List X) → All P (flat_map f xs) → All (λ x. All P (f x)) xs
+pub flat_all : {X Y : Type 0} (P : Y → Type 0) (f : X → List Y) (xs : List X) → All P (flat_map f xs) → All (λ x. All P (f x)) xs
 flat_all {X} {Y} P f [] all = All-nil (λ (z : X). All P (f z))
 flat_all {X} {Y} P f (x ∷ xs) all =
     let parts = all_split P (f x) (flat_map f xs) all in
@@ -46,7 +45,7 @@ all_each : {X : Type 0} (Q : X → Type 0) (xs : List X) → ((k : ℕ) (x : X) 
 all_each Q [] h = All-nil Q
 all_each Q (x ∷ xs) h = All-cons Q x xs (h 0 x refl) (all_each Q xs (λ k y a. h (suc k) y a))
 
-in_flat : {X Y : Type 0} (f : X → List Y) (xs : List X) (x : X) (y : Y) → Contains xs x → Contains (f x) y → Contains (flat_map f xs) y
+pub in_flat : {X Y : Type 0} (f : X → List Y) (xs : List X) (x : X) (y : Y) → Contains xs x → Contains (f x) y → Contains (flat_map f xs) y
 in_flat f [] x y has inside = absurd (in_none x has)
 in_flat f (z ∷ xs) x y has inside =
     ⊎_elim
@@ -54,7 +53,7 @@ in_flat f (z ∷ xs) x y has inside =
     (λ rest. Contains-append_right (f z) (flat_map f xs) y (in_flat f xs x y rest inside))
     (in_cases z xs x has)
 
-in_zip : {X : Type 0} (ids : List ℕ) (xs : List X) (k id : ℕ) (x : X) → slice_get ids k ≡ Some id → slice_get xs k ≡ Some x → Contains (zip ids xs) (id, x)
+pub in_zip : {X : Type 0} (ids : List ℕ) (xs : List X) (k id : ℕ) (x : X) → slice_get ids k ≡ Some id → slice_get xs k ≡ Some x → Contains (zip ids xs) (id, x)
 in_zip [] xs k id x a b = cc
 in_zip (i ∷ is) [] k id x a b = cc
 in_zip (i ∷ is) (y ∷ xs) zero id x a b = (0, omega arith, ap (λ n. (n, y)) (same_Some _ _ a) ∙ ap (λ z. (id, z)) (same_Some _ _ b))
@@ -159,7 +158,7 @@ case_all P book ids lists all =
 
 -- ---- how many there are
 
-length_flat : {X Y : Type 0} (f : X → List Y) (n : ℕ) (xs : List X) → All (λ x. length (f x) ≤ n) xs → length (flat_map f xs) ≤ n * length xs
+pub length_flat : {X Y : Type 0} (f : X → List Y) (n : ℕ) (xs : List X) → All (λ x. length (f x) ≤ n) xs → length (flat_map f xs) ≤ n * length xs
 length_flat f n [] all = omega arith
 length_flat f n (x ∷ xs) all =
     let one = All-head (λ z. length (f z) ≤ n) x xs all in

@@ -1,5 +1,5 @@
 -- Generations one by one, and the tellings of cases.
-use Rattle.std.proofs.Common.{◌≡◌, ◌∙◌, ap, sym, refl, subst, ℕ, zero, suc, ◌+◌, ◌<◌, List, [], ◌∷◌, ◌++◌, Option, length, map, add-one, arith}
+use Rattle.std.proofs.Common.{◌≡◌, ◌∙◌, ap, sym, refl, subst, ℕ, zero, suc, ◌+◌, List, [], ◌∷◌, ◌++◌, Option, length, map, add-one, arith}
 use Rattle.std.specs.List.{filter_map, range_with_len}
 use Rattle.std.proofs.lemmas.List.{length-append, length-map}
 use Rattle.std.proofs.lemmas.List.Elements.{filter_map-append}
@@ -12,8 +12,9 @@ use Rattle.report_text.specs.Report.{case_text}
 use Rattle.report_text.specs.declared.data.CaseReport.{CaseReport}
 use Rattle.report_text.specs.declared.data.Generation.{Generation}
 use Rattle.wasp_session.proofs.TellSteps.{tells_then}
-use Rattle.wasp_session.specs.Case.{IsCaseTold, IsReportOf, generation_at, generations_of}
-use Rattle.wasp_session.specs.Said.{AreCasesTold, Tells}
+use Rattle.wasp_session.specs.Accepted.{IsAccepted}
+use Rattle.wasp_session.specs.Case.{IsReportOf, generation_at, generations_of}
+use Rattle.wasp_session.specs.Said.{AreCasesTold, IsCaseTold, Tells}
 
 range_more : (a n j : ℕ) → a + n ≡ j → range_with_len a (suc n) ≡ range_with_len a n ++ j ∷ []
 range_more a zero j at =
@@ -32,11 +33,11 @@ generation_step h k before after so_far more =
     more ∙ ap (λ (gs : List Generation). gs ++ filter_map h (k ∷ [])) so_far ∙ sym (filter_map-append h (range_with_len 0 k) (k ∷ [])) ∙ ap (filter_map h) (sym next)
 
 -- a case is told by its report
-pub case_told : (d : Says) (c : ℕ) (report : CaseReport) (before after : List ℕ) (details now : ℕ) → IsReportOf d c report → after ≡ before ++ case_text c report → now ≡ details + length report.years
-    → Tells (IsCaseTold d c) before after details now
-case_told d c report before after details now is text chosen = record {
-  told = record { text = case_text c report; chosen = length report.years };
-  is = record { report = report; is_of = is; text = refl; chosen = refl };
+pub case_told : (d : Says) (c : ℕ) (report : CaseReport) (before after : List ℕ) (details now : ℕ) → IsReportOf d c report → IsAccepted d c (case_text c report) → after ≡ before ++ case_text c report
+    → now ≡ details + length report.years → Tells (IsCaseTold d c) before after details now
+case_told d c report before after details now is accepted text chosen = record {
+  told = record { text = case_text c report; chosen = length report.years; nos = 0 };
+  is = record { report = report; is_of = is; text = refl; chosen = refl; nos = refl; accepted = accepted };
   text = text;
   chosen = chosen;
 }

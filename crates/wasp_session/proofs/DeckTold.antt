@@ -16,7 +16,7 @@ use Rattle.wasp_session.specs.Said.{AreCasesTold, IsDeckTold, IsPlanTold, Tells,
 use Rattle.wasp_session.specs.Steps.{AreCaseLists}
 
 -- a case and year over a limit are not within it
-over_not_within : ListingsAreOne → (d : Says) (c t : ℕ) (r : Refusal) → IsOver d c t r → IsWithin d c t → ⊥
+pub over_not_within : ListingsAreOne → (d : Says) (c t : ℕ) (r : Refusal) → IsOver d c t r → IsWithin d c t → ⊥
 over_not_within one d c t (Deck fault) over within = over
 over_not_within one d c t (Wide case year n) over within =
     let wide = over.2 in

@@ -1,5 +1,5 @@
 -- One line more: its deck, its number, its keys.
-use Rattle.std.proofs.Common.{◌≡◌, ◌≢◌, ◌∙◌, ap, sym, refl, subst, ℕ, zero, suc, ◌+◌, ◌<◌, ◌⊎◌, ◌↔◌, inl, inr, ⊎_elim, List, [], ◌∷◌, ◌++◌, All, Contains, length, get_or, arith, append_assoc}
+use Rattle.std.proofs.Common.{◌≡◌, ◌≢◌, ◌∙◌, ap, sym, refl, subst, suc, ◌+◌, ◌⊎◌, inl, inr, ⊎_elim, List, [], ◌∷◌, ◌++◌, All, Contains, arith, append_assoc}
 use Rattle.std.specs.Prelude.{fold}
 use Rattle.std.specs.List.{AllPairs}
 use Rattle.std.proofs.lemmas.List.{append-nil, length-append}
@@ -7,7 +7,6 @@ use Rattle.std.proofs.lemmas.List.Elements.{All-append, All-contains_itself, All
 use Rattle.std.proofs.lemmas.List.Kept.{AllPairs-cons}
 use Rattle.std.proofs.lemmas.List.Sums.{fold-append}
 use Rattle.board_core.specs.declared.row.KeptRow.{KeptRow}
-use Rattle.deck_check.specs.Readings.{Says}
 use Rattle.deck_lines.specs.Deck.{body_of, changed, deck_at}
 use Rattle.deck_lines.specs.declared.line.Line.{Line}
 use Rattle.deck_lines.specs.declared.line.Line.TheVariants as lines
@@ -15,9 +14,10 @@ use Rattle.deck_lines.specs.declared.statement.Statement.{Statement}
 use Rattle.deck_lines.proofs.Placed.{decks_follow}
 use Rattle.sim_engine.specs.Engine.{Run}
 use Rattle.sim_sweep.specs.Kept.{AreDue}
-use Rattle.wasp_session.specs.Keys.{AreKeys, DemandsOn, IsDemandedAfter, IsDemandedBy}
+use Rattle.wasp_session.specs.Checks.{open_at}
+use Rattle.wasp_session.specs.Keys.{AreKeys, DemandsOn, IsDemandedAfter}
 use Rattle.wasp_session.specs.Said.{plan_count}
-use Rattle.wasp_session.specs.State.{Follows, IsKeptKey, Keeps, State}
+use Rattle.wasp_session.specs.State.{Keeps}
 use Rattle.wasp_session.specs.Steps.{AddsKeys}
 use Rattle.year_system.specs.System.{System}
 
@@ -41,18 +41,22 @@ count_more (lines.Skip ∷ ls) line = count_more ls line
 count_more (lines.EndCheck ∷ ls) line = count_more ls line
 count_more (lines.End ∷ ls) line = count_more ls line
 
+-- what a line demands behind others
+abbrev IsDemandedBehind : List Line → Line → Run → Type 0
+IsDemandedBehind before line key = DemandsOn (deck_at before) (open_at before) line key
+
 -- the keys that a line more demands
-more_after : (before ls : List Line) (line : Line) (key : Run) → IsDemandedAfter before (ls ++ line ∷ []) key → IsDemandedAfter before ls key ⊎ DemandsOn (deck_at (before ++ ls)) line key
-more_after before [] line key is = ⊎_elim (λ d. inr (subst (λ (b : List Line). DemandsOn (deck_at b) line key) (sym (append-nil before)) d)) (λ none. absurd none) is
+more_after : (before ls : List Line) (line : Line) (key : Run) → IsDemandedAfter before (ls ++ line ∷ []) key → IsDemandedAfter before ls key ⊎ IsDemandedBehind (before ++ ls) line key
+more_after before [] line key is = ⊎_elim (λ d. inr (subst (λ (b : List Line). IsDemandedBehind b line key) (sym (append-nil before)) d)) (λ none. absurd none) is
 more_after before (l ∷ ls) line key is = ⊎_elim (λ d. inl (inl d))
-    (λ rest. ⊎_elim (λ d. inl (inr d)) (λ d. inr (subst (λ (b : List Line). DemandsOn (deck_at b) line key) (append_assoc before (l ∷ []) ls) d)) (more_after (before ++ l ∷ []) ls line key rest))
+    (λ rest. ⊎_elim (λ d. inl (inr d)) (λ d. inr (subst (λ (b : List Line). IsDemandedBehind b line key) (append_assoc before (l ∷ []) ls) d)) (more_after (before ++ l ∷ []) ls line key rest))
     is
 
-less_after : (before ls : List Line) (line : Line) (key : Run) → IsDemandedAfter before ls key ⊎ DemandsOn (deck_at (before ++ ls)) line key → IsDemandedAfter before (ls ++ line ∷ []) key
-less_after before [] line key is = ⊎_elim (λ none. absurd none) (λ d. inl (subst (λ (b : List Line). DemandsOn (deck_at b) line key) (append-nil before) d)) is
+less_after : (before ls : List Line) (line : Line) (key : Run) → IsDemandedAfter before ls key ⊎ IsDemandedBehind (before ++ ls) line key → IsDemandedAfter before (ls ++ line ∷ []) key
+less_after before [] line key is = ⊎_elim (λ none. absurd none) (λ d. inl (subst (λ (b : List Line). IsDemandedBehind b line key) (append-nil before) d)) is
 less_after before (l ∷ ls) line key is = ⊎_elim
     (λ old. ⊎_elim (λ d. inl d) (λ d. inr (less_after (before ++ l ∷ []) ls line key (inl d))) old)
-    (λ d. inr (less_after (before ++ l ∷ []) ls line key (inr (subst (λ (b : List Line). DemandsOn (deck_at b) line key) (sym (append_assoc before (l ∷ []) ls)) d))))
+    (λ d. inr (less_after (before ++ l ∷ []) ls line key (inr (subst (λ (b : List Line). IsDemandedBehind b line key) (sym (append_assoc before (l ∷ []) ls)) d))))
     is
 
 -- ---- lists without repeats, joined
@@ -70,10 +74,10 @@ pairs_append R (x ∷ xs) ys one other across =
     (All-append (R x) xs ys (pairs_head R x xs one) (All-weaker (Contains ys) (R x) (λ y has. across x y (0, omega arith, refl) has) ys (All-contains_itself ys)))
     (pairs_append R xs ys (pairs_tail R x xs one) other (λ z y a b. across z y (let w = a.1 in (suc a.0, omega (arith, w), a.2)) b))
 
--- ---- the keys of a PLAN more
+-- ---- the keys of a line more
 
 pub keys_more : (ls : List Line) (line : Line) (book now : List System) (kept kept_now : List KeptRow) (keys new : List Run)
-    → AreKeys ls keys → Keeps book kept keys → AddsKeys (DemandsOn (deck_at ls) line) book kept now kept_now new → AreKeys (ls ++ line ∷ []) (keys ++ new)
+    → AreKeys ls keys → Keeps book kept keys → AddsKeys (DemandsOn (deck_at ls) (open_at ls) line) book kept now kept_now new → AreKeys (ls ++ line ∷ []) (keys ++ new)
 keys_more ls line book now kept kept_now keys new are keeps adds = record {
   once = pairs_append (λ one other. one ≢ other) keys new are.once adds.once (λ x y old fresh same. adds.fresh y fresh ((keeps.each y).0 (subst (Contains keys) same old)));
   each = λ key. (

@@ -1,5 +1,5 @@
 -- The keys of the rows that are kept: those from before, and those of the new demands.
-use Rattle.std.proofs.Common.{◌≡◌, ◌≢◌, ◌∙◌, ap, sym, refl, subst, ℕ, zero, suc, ◌+◌, ◌<◌, ◌⊎◌, inl, inr, ⊎_elim, eqb, Bool, true, false, cond, not, List, [], ◌∷◌, ◌++◌, All, Contains, IsSome, IsTrue, Option, None, Some, filter, length, map, get_or, slice_get, is_none, is_some, arith}
+use Rattle.std.proofs.Common.{◌≡◌, ◌≢◌, ◌∙◌, ap, sym, refl, subst, ℕ, zero, suc, ◌+◌, ◌⊎◌, inl, inr, ⊎_elim, eqb, Bool, true, false, not, List, [], ◌∷◌, ◌++◌, All, Contains, IsSome, IsTrue, Option, None, Some, filter, length, slice_get, is_none, is_some, arith}
 use mathlib.Core.Bool.{false≢true}
 use Rattle.std.specs.List.{AllByRecursion, AllPairs, IsDistinct, filter_map}
 use Rattle.std.proofs.lemmas.Bool.Decides.{nat_tests}

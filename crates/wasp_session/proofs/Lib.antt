@@ -1,5 +1,8 @@
+mod AcceptedSteps
 mod AskSteps
+mod CaseKeys
 mod CaseSteps
+mod CheckSteps
 mod DeckTold
 mod DemandLists
 mod EachSteps
@@ -7,8 +10,12 @@ mod FillKeys
 pub mod FollowSteps
 mod KeySteps
 mod ListSteps
+pub mod ModeLines
+mod NoSteps
+mod OpenSteps
 mod PlanKeys
 mod PlanSteps
+mod PrintSteps
 mod ReportSteps
 mod ResultSteps
 mod SessionSteps

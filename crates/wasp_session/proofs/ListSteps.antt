@@ -1,7 +1,7 @@
 -- The listed configurations of a year, room for one system more, and systems that come into the book.
-use Rattle.std.proofs.Common.{◌≡◌, ◌∙◌, ap, sym, refl, subst, ℕ, zero, suc, ◌+◌, ◌-◌, ◌<◌, ◌≤◌, ◌⊎◌, inl, inr, ⊎_elim, max, List, [], ◌∷◌, ◌++◌, All, Contains, Option, None, Some, length, take, drop, get_or, slice_get, arith}
+use Rattle.std.proofs.Common.{◌≡◌, ◌∙◌, ap, sym, refl, subst, ℕ, zero, suc, ◌+◌, ◌-◌, ◌<◌, ◌≤◌, ◌⊎◌, inl, inr, ⊎_elim, List, [], ◌∷◌, ◌++◌, All, Contains, Some, length, take, drop, get_or, slice_get, arith}
 use Rattle.std.proofs.lemmas.Bool.{cases_lt}
-use Rattle.std.proofs.lemmas.List.{append-nil, append_assoc, length-append, take_all, take_more}
+use Rattle.std.proofs.lemmas.List.{append_assoc, length-append, take_all, take_more}
 use Rattle.std.proofs.lemmas.List.Elements.{All-append, All-cons, All-contains_itself, All-nil, All-weaker}
 use Rattle.std.proofs.lemmas.Option.{get_or_from_slice_get, same_Some, slice_get_within}
 use Rattle.deck_check.specs.Readings as says
@@ -14,8 +14,8 @@ use Rattle.sim_engine.specs.Engine.{Room}
 use Rattle.tunnel_configs.specs.Listed.{IsInTunnel, IsListing, box_size}
 use Rattle.wasp_session.specs.State.{AreOnes}
 use Rattle.report_text.specs.declared.refusals.Refusal.{Refusal}
-use Rattle.wasp_session.specs.Listings.{IsFirstOver, IsOf, IsOver, IsWithin, ComesBefore, IsFairListing}
-use Rattle.wasp_session.specs.Steps.{AreNumbers, AreSystems, AreYearLists, EachAt, HasGrown, HasRoom, HasYearRoom, HasYears, IsOverIn, IsYearList, IsYearSystem}
+use Rattle.wasp_session.specs.Listings.{IsFirstOver, IsOf, IsOver, IsOverIn, IsWithin, IsFairListing}
+use Rattle.wasp_session.specs.Steps.{AreNumbers, AreSystems, AreYearLists, EachAt, HasGrown, HasRoom, HasYearRoom, HasYears, IsYearList, IsYearSystem}
 use Rattle.wasp_session.proofs.EachSteps.{at_place, each_more}
 use Rattle.year_system.specs.System.{Fits, System, cells, greatest, unit_limit}
 
@@ -126,7 +126,7 @@ rest_first (y ∷ xs) rest (suc n) x e h at = let r = rest_first xs rest n x e h
 
 -- ---- the first year, and the first case, over a limit
 
-within_at : (d : Says) (c k t : ℕ) (lists : List (List (List ℕ))) → length lists ≡ k → EachAt (λ i configs. IsYearList d c (i + 1) configs) lists → 1 ≤ t → t < k + 1 → IsWithin d c t
+pub within_at : (d : Says) (c k t : ℕ) (lists : List (List (List ℕ))) → length lists ≡ k → EachAt (λ i configs. IsYearList d c (i + 1) configs) lists → 1 ≤ t → t < k + 1 → IsWithin d c t
 within_at d c k t lists many each low high =
     let at = at_place lists (t - 1) (omega (arith, many, low, high)) in
     let is : t - 1 + 1 ≡ t = omega (arith, low) in

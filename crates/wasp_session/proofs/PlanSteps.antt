@@ -1,11 +1,10 @@
 -- The years of a chosen plan: where its configurations stand in the layers, and one year more.
-use Rattle.std.proofs.Common.{◌≡◌, ◌∙◌, ap, sym, refl, subst, ℕ, zero, suc, ◌+◌, ◌-◌, ◌<◌, ◌≤◌, List, [], ◌∷◌, ◌++◌, All, Contains, length, map, filter, get_or, slice_index_or, add-one, arith}
+use Rattle.std.proofs.Common.{◌≡◌, ◌∙◌, ap, sym, refl, subst, ℕ, zero, suc, ◌+◌, ◌<◌, List, [], ◌∷◌, ◌++◌, All, Contains, length, map, get_or, slice_index_or, add-one, arith}
 use Rattle.std.proofs.lemmas.List.{get_or-map, get_or-replicate, length-map, length-replicate}
-use Rattle.std.proofs.lemmas.List.Elements.{All-filter, All-map, All-contains}
+use Rattle.std.proofs.lemmas.List.Elements.{All-filter, All-map}
 use Rattle.cost_terms.specs.Cost.{nothing_built}
 use Rattle.cost_terms.specs.Table.{IsEntry, IsTable, Table}
 use Rattle.cost_terms.specs.declared.entries.Scored.{Scored}
-use Rattle.cost_terms.specs.declared.prices.CostData.{CostData}
 use Rattle.cost_terms.specs.CostData.{greatest}
 use Rattle.deck_check.specs.Readings.{Says, system, years}
 use Rattle.deck_check.specs.TypedDeck.{limit}
@@ -16,7 +15,7 @@ use Rattle.plant_data.specs.declared.row.Limit.{Limit}
 use Rattle.report_text.specs.declared.data.PlanYear.{PlanYear}
 use Rattle.sim_engine.specs.Row.{row_of}
 use Rattle.sim_sweep.specs.Cases.{is_accepted}
-use Rattle.wasp_session.specs.Case.{AreYearsFrom, IsLayerOf, IsTableOf, IsYearOf, accepted_of}
+use Rattle.wasp_session.specs.Case.{AreYearsFrom, IsTableOf, IsYearOf, accepted_of}
 use Rattle.wasp_session.specs.Steps.{HasPlace, IsPlaced}
 use Rattle.year_system.specs.System.{System}
 

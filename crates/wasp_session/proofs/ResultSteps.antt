@@ -1,5 +1,5 @@
 -- What is true of a value that was answered, from other facts about it.
-use Rattle.std.proofs.Common.{◌≡◌, ap, Result, Ok, Err, IfOk}
+use Rattle.std.proofs.Common.{ap, Result, Ok, Err, IfOk}
 use Rattle.std.specs.Result.{IsErrOf, result_err}
 use Rattle.std.proofs.lemmas.Option.{same_Some}
 

@@ -1,22 +1,29 @@
--- A session's lines: none, one that edits, one that plans, and the last; and what is told of each.
+-- A session's lines: none; one more, with the keys that it demands; one that demands none; and what is told of each.
 use Rattle.std.proofs.Common.{◌≡◌, ◌∙◌, ap, sym, refl, subst, ℕ, ◌+◌, ◌≤◌, ◌⊎◌, ⊎_elim, false, true≢false, is_some, List, [], ◌∷◌, ◌++◌, length, Option, Some, None, slice_get, arith}
 use Rattle.std.proofs.lemmas.List.{append-nil}
 use Rattle.board_core.specs.declared.row.KeptRow.{KeptRow}
 use Rattle.deck_check.specs.Readings.{Says}
-use Rattle.deck_lines.specs.Deck.{body_of, changed, deck_at}
+use Rattle.deck_lines.specs.Deck.{body_of, changed, deck_at, put, without}
 use Rattle.deck_lines.specs.declared.head.Head.{Head}
 use Rattle.deck_lines.specs.declared.line.CertLine.{CertLine}
 use Rattle.deck_lines.specs.declared.line.Line.{Line}
 use Rattle.deck_lines.specs.declared.line.Line.TheVariants as lines
 use Rattle.deck_lines.specs.declared.statement.Statement.{Statement}
 use Rattle.report_text.specs.Lines.{keys_line}
+use Rattle.report_text.specs.Verdicts.{verdict_line}
+use Rattle.report_text.specs.declared.verdicts.Judged.{Judged}
 use Rattle.sim_engine.specs.Engine.{Run, Tape}
 use Rattle.sim_sweep.specs.Kept.{AreDue}
-use Rattle.wasp_session.specs.Keys.{AreKeys, CountsKeys, Demands, DemandsOn}
-use Rattle.wasp_session.specs.Said.{IsLineTold, IsPlanTold, Tells, nothing, plain, plan_count}
+use Rattle.wasp_session.specs.Checks.{IsJudged, Open, check_count, nos_of, open_at, open_behind, with_line}
+use Rattle.wasp_session.specs.Keys.{AreKeys, CountsKeys, DemandsAtEnd, DemandsChecked, DemandsOn}
+use Rattle.wasp_session.specs.Said.{IsCheckTold, IsLineTold, IsPlanTold, Tells, TellsAll, nothing, plain, plan_count}
 use Rattle.wasp_session.specs.State.{Follows, Keeps, State}
 use Rattle.wasp_session.specs.Steps.{AddsKeys, IfBoth, Simulates}
+use Rattle.wasp_session.specs.declared.command.Command.{Command}
 use Rattle.wasp_session.proofs.FollowSteps.{adds_none, count_more, deck_more, deck_same, keeps_more, keys_more}
+use Rattle.wasp_session.proofs.NoSteps.{plan_no, tells_no}
+use Rattle.wasp_session.proofs.OpenSteps.{checks_more, open_more}
+use Rattle.wasp_session.proofs.PlanKeys.{simulates_none}
 use Rattle.year_system.specs.System.{System}
 
 -- ---- no line
@@ -37,10 +44,12 @@ no_keys = record {
   each = λ key. (λ has. absurd (let w = has.1 in omega (arith, w)), λ none. absurd none);
 }
 
-pub follows_none : (deck : List Statement) (s : State) → deck ≡ [] → s ≡ record { deck = deck; book = []; kept = []; plans = 0; refused = false } → Follows [] s
-follows_none deck s e is = record {
+pub follows_none : (command : Command) (deck : List Statement) (s : State) → deck ≡ [] → s ≡ record { command = command; deck = deck; book = []; kept = []; plans = 0; checks = 0; opened = None; nos = 0; refused = false } → Follows [] s
+follows_none command deck s e is = record {
   deck = ap (λ (z : State). z.deck) is ∙ e;
   plans = ap (λ (z : State). z.plans) is;
+  checks = ap (λ (z : State). z.checks) is;
+  opened = ap (λ (z : State). z.opened) is;
   keys = [];
   are_keys = no_keys;
   keeps = subst (λ (z : State). Keeps z.book z.kept []) (sym is) none_kept;
@@ -53,143 +62,222 @@ counts_keys ls s n e f = record { keys = f.keys; are_keys = f.are_keys; many = e
 
 -- ---- one line more
 
--- a line that plans nothing, and one that tells nothing either
-pub record IsIdle (line : Line) : Type 0 where
-  pub demands : (d : Says) (key : Run) → DemandsOn d line key → ⊥
-  pub plans : plan_count (line ∷ []) ≡ 0
+-- what a line makes of a session besides its rows
+pub record IsBehind (line : Line) (s t : State) : Type 0 where
+  pub deck : t.deck ≡ changed s.deck line
+  pub plans : t.plans ≡ s.plans + plan_count (line ∷ [])
+  pub checks : t.checks ≡ s.checks + check_count (line ∷ [])
+  pub opened : t.opened ≡ open_behind s.opened line
 
-pub record IsQuiet (line : Line) : Type 0 where
-  pub idle : IsIdle line
-  pub tells : (ls : List Line) → IsLineTold ls line nothing
-
-pub set_quiet : (s : Statement) → IsQuiet (lines.Set s)
-set_quiet s = record { idle = record { demands = λ d key none. none; plans = refl }; tells = λ ls. refl }
-
-pub drop_quiet : (h : Head) → IsQuiet (lines.Drop h)
-drop_quiet h = record { idle = record { demands = λ d key none. none; plans = refl }; tells = λ ls. refl }
-
-pub blank_quiet : IsQuiet lines.Blank
-blank_quiet = record { idle = record { demands = λ d key none. none; plans = refl }; tells = λ ls. refl }
-
-pub check_quiet : (c : ℕ) → IsQuiet (lines.Check c)
-check_quiet c = record { idle = record { demands = λ d key none. none; plans = refl }; tells = λ ls. refl }
-
-pub cert_quiet : (l : CertLine) → IsQuiet (lines.Cert l)
-cert_quiet l = record { idle = record { demands = λ d key none. none; plans = refl }; tells = λ ls. refl }
-
-pub skip_quiet : IsQuiet lines.Skip
-skip_quiet = record { idle = record { demands = λ d key none. none; plans = refl }; tells = λ ls. refl }
-
-pub endcheck_quiet : IsQuiet lines.EndCheck
-endcheck_quiet = record { idle = record { demands = λ d key none. none; plans = refl }; tells = λ ls. refl }
-
--- those of a plan's script that are neither statements nor DROP, PLAN or END
-abbrev pub IsOther : Line → Type 0
-IsOther line = (line ≡ lines.Blank) ⊎ ((c : ℕ) × (line ≡ lines.Check c)) ⊎ ((l : CertLine) × (line ≡ lines.Cert l)) ⊎ (line ≡ lines.Skip) ⊎ (line ≡ lines.EndCheck)
-
-pub other_quiet : (line : Line) → IsOther line → IsQuiet line
-other_quiet line is = ⊎_elim
-    (λ e. subst IsQuiet (sym e) blank_quiet)
-    (λ more. ⊎_elim
-    (λ h. subst IsQuiet (sym h.1) (check_quiet h.0))
-    (λ more. ⊎_elim
-    (λ h. subst IsQuiet (sym h.1) (cert_quiet h.0))
-    (λ more. ⊎_elim (λ e. subst IsQuiet (sym e) skip_quiet) (λ e. subst IsQuiet (sym e) endcheck_quiet) more)
-    more)
-    more)
-    is
-
-pub other_goes : (line : Line) → IsOther line → line ≡ lines.End → ⊥
-other_goes line is end = ⊎_elim
-    (λ e. cc)
-    (λ more. ⊎_elim (λ h. let e = h.1 in cc) (λ more. ⊎_elim (λ h. let e = h.1 in cc) (λ more. ⊎_elim (λ e. cc) (λ e. cc) more) more) more)
-    is
-
-pub end_idle : IsIdle lines.End
-end_idle = record { demands = λ d key none. none; plans = refl }
-
-other_deck : (deck : List Statement) (line : Line) → IsOther line → deck ≡ changed deck line
-other_deck deck line is = ⊎_elim
-    (λ e. ap (changed deck) (sym e))
-    (λ more. ⊎_elim (λ h. ap (changed deck) (sym h.1)) (λ more. ⊎_elim (λ h. ap (changed deck) (sym h.1)) (λ more. ⊎_elim (λ e. ap (changed deck) (sym e)) (λ e. ap (changed deck) (sym e)) more) more) more)
-    is
-
-pub unchanged : (s : State) (line : Line) → IsOther line → s ≡ record s { deck = changed s.deck line }
-unchanged s line is = ap (λ (d : List Statement). record s { deck = d }) (other_deck s.deck line is)
-
--- the same of the line that was read
-pub of_line : (s t : State) (line said : Line) → line ≡ said → t ≡ record s { deck = changed s.deck said } → t ≡ record s { deck = changed s.deck line }
-of_line s t line said e is = subst (λ (l : Line). t ≡ record s { deck = changed s.deck l }) (sym e) is
-
--- that plans nothing
-pub follows_edit : (ls : List Line) (line : Line) (s t : State) → IsIdle line → t ≡ record s { deck = changed s.deck line } → Follows ls s → Follows (ls ++ line ∷ []) t
-follows_edit ls line s t idle is f =
-    let adds : AddsKeys (DemandsOn (deck_at ls) line) s.book s.kept s.book s.kept [] = adds_none (DemandsOn (deck_at ls) line) s.book s.kept (idle.demands (deck_at ls)) in
-    let more = count_more ls line in
-    let before = f.plans in
-    let no_plan = idle.plans in
-    subst (λ (z : State). Follows (ls ++ line ∷ []) z) (sym is)
-    (record {
-      deck = deck_more ls line s.deck f.deck;
-      plans = omega (arith, more, before, no_plan);
-      keys = f.keys ++ [];
-      are_keys = keys_more ls line s.book s.book s.kept s.kept f.keys [] f.are_keys f.keeps adds;
-      keeps = keeps_more (DemandsOn (deck_at ls) line) s.book s.book s.kept s.kept f.keys [] f.keeps adds f.keeps.due;
-    })
-
--- its PLAN lines
-pub plans_stay : (s t : State) (line : Line) → IsIdle line → t ≡ record s { deck = changed s.deck line } → t.plans ≡ s.plans + plan_count (line ∷ [])
-plans_stay s t line idle is =
-    let same : t.plans ≡ s.plans = ap (λ (z : State). z.plans) is in
-    let none = idle.plans in
-    omega (arith, same, none)
-
--- that plans
-pub follows_plan : (ls : List Line) (s t : State) (new : List Run) → t.deck ≡ s.deck → t.plans ≡ s.plans + 1 → AddsKeys (Demands (body_of s.deck)) s.book s.kept t.book t.kept new → AreDue t.book t.kept → Follows ls s → Follows (ls ++ lines.Plan ∷ []) t
-follows_plan ls s t new same one_more gains due f =
-    let adds : AddsKeys (DemandsOn (deck_at ls) lines.Plan) s.book s.kept t.book t.kept new = subst (λ (d : Says). AddsKeys (Demands d) s.book s.kept t.book t.kept new) (deck_same ls s.deck f.deck) gains in
-    let more = count_more ls lines.Plan in
-    let before = f.plans in
+-- with the keys that it demands
+pub follows_line : (ls : List Line) (line : Line) (s t : State) (new : List Run) → IsBehind line s t → AddsKeys (DemandsOn (body_of s.deck) s.opened line) s.book s.kept t.book t.kept new → AreDue t.book t.kept → Follows ls s → Follows (ls ++ line ∷ []) t
+follows_line ls line s t new behind gains due f =
+    let on_deck : AddsKeys (DemandsOn (deck_at ls) s.opened line) s.book s.kept t.book t.kept new = subst (λ (d : Says). AddsKeys (DemandsOn d s.opened line) s.book s.kept t.book t.kept new) (deck_same ls s.deck f.deck) gains in
+    let adds : AddsKeys (DemandsOn (deck_at ls) (open_at ls) line) s.book s.kept t.book t.kept new = subst (λ (o : Option Open). AddsKeys (DemandsOn (deck_at ls) o line) s.book s.kept t.book t.kept new) f.opened on_deck in
     record {
-      deck = same ∙ deck_more ls lines.Plan s.deck f.deck;
-      plans = omega (arith, more, before, one_more);
+      deck = behind.deck ∙ deck_more ls line s.deck f.deck;
+      plans = omega (arith, count_more ls line, f.plans, behind.plans);
+      checks = omega (arith, checks_more ls line, f.checks, behind.checks);
+      opened = behind.opened ∙ ap (λ (o : Option Open). open_behind o line) f.opened ∙ sym (open_more ls line);
       keys = f.keys ++ new;
-      are_keys = keys_more ls lines.Plan s.book t.book s.kept t.kept f.keys new f.are_keys f.keeps adds;
-      keeps = keeps_more (DemandsOn (deck_at ls) lines.Plan) s.book t.book s.kept t.kept f.keys new f.keeps adds due;
+      are_keys = keys_more ls line s.book t.book s.kept t.kept f.keys new f.are_keys f.keeps adds;
+      keeps = keeps_more (DemandsOn (deck_at ls) (open_at ls) line) s.book t.book s.kept t.kept f.keys new f.keeps adds due;
     }
 
--- ---- what is told of it
+-- a PLAN, and an ENDCHECK
+pub plan_behind : (s t : State) → t ≡ record s { book = t.book; kept = t.kept; plans = s.plans + 1 } → IsBehind lines.Plan s t
+plan_behind s t is =
+    let checks : t.checks ≡ s.checks = ap (λ (z : State). z.checks) is in
+    record { deck = ap (λ (z : State). z.deck) is; plans = ap (λ (z : State). z.plans) is; checks = omega (arith, checks); opened = ap (λ (z : State). z.opened) is }
 
-pub plan_told : (ls : List Line) (s : State) (before after : List ℕ) (x y : ℕ) → Follows ls s → Tells (IsPlanTold (body_of s.deck) (s.plans + 1)) before after x y → Tells (IsLineTold ls lines.Plan) before after x y
-plan_told ls s before after x y f t =
-    subst (λ (n : ℕ). Tells (IsPlanTold (deck_at ls) (n + 1)) before after x y) f.plans
-    (subst (λ (d : Says). Tells (IsPlanTold d (s.plans + 1)) before after x y) (deck_same ls s.deck f.deck) t)
+pub endcheck_behind : (s t : State) → t ≡ record s { book = t.book; kept = t.kept; nos = t.nos; opened = None } → IsBehind lines.EndCheck s t
+endcheck_behind s t is =
+    let plans : t.plans ≡ s.plans = ap (λ (z : State). z.plans) is in
+    let checks : t.checks ≡ s.checks = ap (λ (z : State). z.checks) is in
+    record { deck = ap (λ (z : State). z.deck) is; plans = omega (arith, plans); checks = omega (arith, checks); opened = ap (λ (z : State). z.opened) is }
 
-pub end_told : (ls : List Line) (s : State) (before after : List ℕ) (x : ℕ) → Follows ls s → after ≡ before ++ keys_line (length s.kept) → Tells (IsLineTold ls lines.End) before after x x
-end_told ls s before after x f e = record {
+-- ---- a line that demands nothing, and what it makes of a session
+
+pub record IsIdle (line : Line) (s t : State) : Type 0 where
+  pub demands : (d : Says) (o : Option Open) (key : Run) → DemandsOn d o line key → ⊥
+  pub behind : IsBehind line s t
+  pub book : t.book ≡ s.book
+  pub kept : t.kept ≡ s.kept
+  pub nos : t.nos ≡ s.nos
+
+pub set_idle : (s : State) (x : Statement) → IsIdle (lines.Set x) s (record s { deck = put s.deck x })
+set_idle s x = record {
+  demands = λ d o key none. none;
+  behind = record { deck = refl; plans = omega arith; checks = omega arith; opened = refl };
+  book = refl;
+  kept = refl;
+  nos = refl;
+}
+
+pub drop_idle : (s : State) (h : Head) → IsIdle (lines.Drop h) s (record s { deck = without s.deck h })
+drop_idle s h = record {
+  demands = λ d o key none. none;
+  behind = record { deck = refl; plans = omega arith; checks = omega arith; opened = refl };
+  book = refl;
+  kept = refl;
+  nos = refl;
+}
+
+pub check_idle : (s : State) (c : ℕ) → IsIdle (lines.Check c) s (record s { checks = s.checks + 1; opened = Some (record { case = c; certificate = [] }) })
+check_idle s c = record {
+  demands = λ d o key none. none;
+  behind = record { deck = refl; plans = omega arith; checks = omega arith; opened = refl };
+  book = refl;
+  kept = refl;
+  nos = refl;
+}
+
+pub cert_idle : (s : State) (l : CertLine) → IsIdle (lines.Cert l) s (record s { opened = with_line s.opened l })
+cert_idle s l = record {
+  demands = λ d o key none. none;
+  behind = record { deck = refl; plans = omega arith; checks = omega arith; opened = refl };
+  book = refl;
+  kept = refl;
+  nos = refl;
+}
+
+pub end_idle : (s : State) → IsIdle lines.End s s
+end_idle s = record {
+  demands = λ d o key none. none;
+  behind = record { deck = refl; plans = omega arith; checks = omega arith; opened = refl };
+  book = refl;
+  kept = refl;
+  nos = refl;
+}
+
+-- a blank line, and one of a report that is skipped
+abbrev pub IsOther : Line → Type 0
+IsOther line = (line ≡ lines.Blank) ⊎ (line ≡ lines.Skip)
+
+blank_idle : (s : State) → IsIdle lines.Blank s s
+blank_idle s = record {
+  demands = λ d o key none. none;
+  behind = record { deck = refl; plans = omega arith; checks = omega arith; opened = refl };
+  book = refl;
+  kept = refl;
+  nos = refl;
+}
+
+skip_idle : (s : State) → IsIdle lines.Skip s s
+skip_idle s = record {
+  demands = λ d o key none. none;
+  behind = record { deck = refl; plans = omega arith; checks = omega arith; opened = refl };
+  book = refl;
+  kept = refl;
+  nos = refl;
+}
+
+pub other_idle : (s : State) (line : Line) → IsOther line → IsIdle line s s
+other_idle s line is = ⊎_elim (λ e. subst (λ (l : Line). IsIdle l s s) (sym e) (blank_idle s)) (λ e. subst (λ (l : Line). IsIdle l s s) (sym e) (skip_idle s)) is
+
+pub other_goes : (line : Line) → IsOther line → line ≡ lines.End → ⊥
+other_goes line is end = ⊎_elim (λ e. cc) (λ e. cc) is
+
+-- the same of the line that was read and the session that was made of it
+pub idle_of : (line said : Line) (s t u : State) → line ≡ said → t ≡ u → IsIdle said s u → IsIdle line s t
+idle_of line said s t u e is idle = subst (λ (l : Line). IsIdle l s t) (sym e) (subst (λ (z : State). IsIdle said s z) (sym is) idle)
+
+idle_adds : (d : Says) (o : Option Open) (line : Line) (s t : State) → IsIdle line s t → AddsKeys (DemandsOn d o line) s.book s.kept t.book t.kept []
+idle_adds d o line s t idle =
+    subst (λ (b : List System). AddsKeys (DemandsOn d o line) s.book s.kept b t.kept []) (sym idle.book)
+    (subst (λ (k : List KeptRow). AddsKeys (DemandsOn d o line) s.book s.kept s.book k []) (sym idle.kept)
+    (adds_none (DemandsOn d o line) s.book s.kept (idle.demands d o)))
+
+pub follows_idle : (ls : List Line) (line : Line) (s t : State) → IsIdle line s t → Follows ls s → Follows (ls ++ line ∷ []) t
+follows_idle ls line s t idle f =
+    let due : AreDue t.book t.kept = subst (λ (b : List System). AreDue b t.kept) (sym idle.book) (subst (λ (k : List KeptRow). AreDue s.book k) (sym idle.kept) f.keeps.due) in
+    follows_line ls line s t [] idle.behind (idle_adds (body_of s.deck) s.opened line s t idle) due f
+
+idle_simulates : (d : Says) (o : Option Open) (line : Line) (s t : State) (count : ℕ) (tape : Option Tape) (runs : Option (List Run)) → IsIdle line s t → Simulates (DemandsOn d o line) s.book s.kept t.book t.kept count count tape runs runs
+idle_simulates d o line s t count tape runs idle =
+    subst (λ (b : List System). Simulates (DemandsOn d o line) s.book s.kept b t.kept count count tape runs runs) (sym idle.book)
+    (subst (λ (k : List KeptRow). Simulates (DemandsOn d o line) s.book s.kept s.book k count count tape runs runs) (sym idle.kept)
+    (simulates_none (DemandsOn d o line) s.book s.kept count tape runs (idle.demands d o)))
+
+-- ---- what is told of a line
+
+-- one that tells nothing
+abbrev pub IsQuiet : Line → Type 0
+IsQuiet line = (ls : List Line) → IsLineTold ls line nothing
+
+pub set_quiet : (s : Statement) → IsQuiet (lines.Set s)
+set_quiet s ls = refl
+
+pub drop_quiet : (h : Head) → IsQuiet (lines.Drop h)
+drop_quiet h ls = refl
+
+pub check_quiet : (c : ℕ) → IsQuiet (lines.Check c)
+check_quiet c ls = refl
+
+pub cert_quiet : (l : CertLine) → IsQuiet (lines.Cert l)
+cert_quiet l ls = refl
+
+blank_quiet : IsQuiet lines.Blank
+blank_quiet ls = refl
+
+skip_quiet : IsQuiet lines.Skip
+skip_quiet ls = refl
+
+pub other_quiet : (line : Line) → IsOther line → IsQuiet line
+other_quiet line is = ⊎_elim (λ e. subst IsQuiet (sym e) blank_quiet) (λ e. subst IsQuiet (sym e) skip_quiet) is
+
+quiet_told : (ls : List Line) (line : Line) (text : List ℕ) (x nos nos_now : ℕ) → IsQuiet line → nos_now ≡ nos → TellsAll (IsLineTold ls line) text text x x nos nos_now
+quiet_told ls line text x nos nos_now quiet same = record { told = nothing; is = quiet ls; text = sym (append-nil text); chosen = omega arith; nos = omega (arith, same) }
+
+pub plan_told : (ls : List Line) (s : State) (before after : List ℕ) (x y nos : ℕ) → Follows ls s → nos ≡ s.nos → Tells (IsPlanTold (body_of s.deck) (s.plans + 1)) before after x y → TellsAll (IsLineTold ls lines.Plan) before after x y s.nos nos
+plan_told ls s before after x y nos f same t =
+    tells_no (IsLineTold ls lines.Plan) before after x y s.nos nos (plan_no (deck_at ls) (plan_count ls + 1)) same
+    (subst (λ (n : ℕ). Tells (IsPlanTold (deck_at ls) (n + 1)) before after x y) f.plans
+    (subst (λ (d : Says). Tells (IsPlanTold d (s.plans + 1)) before after x y) (deck_same ls s.deck f.deck) t))
+
+pub check_told : (ls : List Line) (s : State) (before after : List ℕ) (x y nos : ℕ) → Follows ls s → TellsAll (IsCheckTold (body_of s.deck) s.checks s.opened) before after x y s.nos nos → TellsAll (IsLineTold ls lines.EndCheck) before after x y s.nos nos
+check_told ls s before after x y nos f t =
+    subst (λ (o : Option Open). TellsAll (IsCheckTold (deck_at ls) (check_count ls) o) before after x y s.nos nos) f.opened
+    (subst (λ (n : ℕ). TellsAll (IsCheckTold (deck_at ls) n s.opened) before after x y s.nos nos) f.checks
+    (subst (λ (d : Says). TellsAll (IsCheckTold d s.checks s.opened) before after x y s.nos nos) (deck_same ls s.deck f.deck) t))
+
+-- at an ENDCHECK where no CHECK is open, and where this one is
+pub none_told : (d : Says) (n : ℕ) (o : Option Open) (text : List ℕ) (x nos nos_now : ℕ) → o ≡ None → nos_now ≡ nos → TellsAll (IsCheckTold d n o) text text x x nos nos_now
+none_told d n o text x nos nos_now none same =
+    subst (λ (z : Option Open). TellsAll (IsCheckTold d n z) text text x x nos nos_now) (sym none)
+    (record { told = nothing; is = refl; text = sym (append-nil text); chosen = omega arith; nos = omega (arith, same) })
+
+pub verdict_told : (d : Says) (n case : ℕ) (o : Option Open) (p : Open) (judged : Judged) (before after : List ℕ) (x y nos more nos_now : ℕ) → o ≡ Some p → case ≡ p.case → IsJudged d p judged
+    → after ≡ before ++ verdict_line n case judged → y ≡ x → more ≡ nos_of judged → nos_now ≡ nos + more → TellsAll (IsCheckTold d n o) before after x y nos nos_now
+verdict_told d n case o p judged before after x y nos more nos_now some same_case is text same_details many total =
+    subst (λ (z : Option Open). TellsAll (IsCheckTold d n z) before after x y nos nos_now) (sym some)
+    (record {
+      told = record { text = verdict_line n p.case judged; chosen = 0; nos = nos_of judged };
+      is = record { judged = judged; is_of = is; is = refl };
+      text = text ∙ ap (λ (c : ℕ). before ++ verdict_line n c judged) same_case;
+      chosen = omega (arith, same_details);
+      nos = omega (arith, many, total);
+    })
+
+pub end_told : (ls : List Line) (s : State) (before after : List ℕ) (x nos : ℕ) → Follows ls s → nos ≡ s.nos → after ≡ before ++ keys_line (length s.kept) → TellsAll (IsLineTold ls lines.End) before after x x s.nos nos
+end_told ls s before after x nos f same e = record {
   told = plain (keys_line (length s.kept));
   is = record { many = length s.kept; keys = counts_keys ls s (length s.kept) refl f; is = refl };
   text = e;
   chosen = omega arith;
+  nos = omega (arith, same);
 }
 
-quiet_told : (ls : List Line) (line : Line) (text : List ℕ) (x : ℕ) → IsQuiet line → Tells (IsLineTold ls line) text text x x
-quiet_told ls line text x quiet = record { told = nothing; is = quiet.tells ls; text = sym (append-nil text); chosen = omega arith }
+-- the keys of an ENDCHECK where no CHECK is open, and where this one is
+pub none_simulates : (d : Says) (o : Option Open) (book : List System) (kept : List KeptRow) (count : ℕ) (tape : Option Tape) (runs : Option (List Run)) → o ≡ None → Simulates (DemandsAtEnd d o) book kept book kept count count tape runs runs
+none_simulates d o book kept count tape runs none =
+    subst (λ (z : Option Open). Simulates (DemandsAtEnd d z) book kept book kept count count tape runs runs) (sym none)
+    (simulates_none (DemandsAtEnd d None) book kept count tape runs (λ key is. is))
 
--- ---- the keys of a line that demands none
-
-same_simulates : (demanded : Run → Type 0) (book : List System) (kept : List KeptRow) (count : ℕ) (tape : Option Tape) (runs : Option (List Run)) → ((key : Run) → demanded key → ⊥) → Simulates demanded book kept book kept count count tape runs runs
-same_simulates demanded book kept count tape runs none = record {
-  new = [];
-  adds = adds_none demanded book kept none;
-  counts = omega arith;
-  told = λ t. t.runs_are ∙ ap (λ (z : List Run). Some z) (sym (append-nil t.before));
-  only_told = λ now is. record { was = now; told = is; is = sym (append-nil now) };
-}
-
-idle_simulates : (d : Says) (line : Line) (s t : State) (count : ℕ) (tape : Option Tape) (runs : Option (List Run)) → IsIdle line → t ≡ record s { deck = changed s.deck line } → Simulates (DemandsOn d line) s.book s.kept t.book t.kept count count tape runs runs
-idle_simulates d line s t count tape runs idle is =
-    subst (λ (z : State). Simulates (DemandsOn d line) s.book s.kept z.book z.kept count count tape runs runs) (sym is) (same_simulates (DemandsOn d line) s.book s.kept count tape runs (idle.demands d))
+pub checked_simulates : (d : Says) (o : Option Open) (p : Open) (book now : List System) (kept kept_now : List KeptRow) (count count_now : ℕ) (tape : Option Tape) (runs runs_now : Option (List Run)) → o ≡ Some p
+    → Simulates (DemandsChecked d p) book kept now kept_now count count_now tape runs runs_now → Simulates (DemandsAtEnd d o) book kept now kept_now count count_now tape runs runs_now
+checked_simulates d o p book now kept kept_now count count_now tape runs runs_now some s =
+    subst (λ (z : Option Open). Simulates (DemandsAtEnd d z) book kept now kept_now count count_now tape runs runs_now) (sym some) s
 
 -- ---- the first engine
 
@@ -204,15 +292,15 @@ both_then (Some x) None One Other is each = tt
 both_then (Some x) (Some y) One Other is each = each x y is
 
 -- a line that demands none, by an engine that stays as it was
-pub idle_keys : {X : Type 0} (simulated : X → ℕ) (tape : X → Option Tape) (runs : X → Option (List Run)) (o : Option X) (d : Says) (line : Line) (s t : State) → IsIdle line → t ≡ record s { deck = changed s.deck line }
-    → IfBoth o o (λ before after. Simulates (DemandsOn d line) s.book s.kept t.book t.kept (simulated before) (simulated after) (tape before) (runs before) (runs after))
-idle_keys simulated tape runs None d line s t idle is = tt
-idle_keys simulated tape runs (Some x) d line s t idle is = idle_simulates d line s t (simulated x) (tape x) (runs x) idle is
+pub idle_keys : {X : Type 0} (simulated : X → ℕ) (tape : X → Option Tape) (runs : X → Option (List Run)) (first : Option X) (d : Says) (o : Option Open) (line : Line) (s t : State) → IsIdle line s t
+    → IfBoth first first (λ before after. Simulates (DemandsOn d o line) s.book s.kept t.book t.kept (simulated before) (simulated after) (tape before) (runs before) (runs after))
+idle_keys simulated tape runs None d o line s t idle = tt
+idle_keys simulated tape runs (Some x) d o line s t idle = idle_simulates d o line s t (simulated x) (tape x) (runs x) idle
 
 -- a line that tells nothing
-pub quiet_tells : {X : Type 0} (detailed : X → ℕ) (o : Option X) (ls : List Line) (line : Line) (text : List ℕ) → IsQuiet line → IfBoth o o (λ before after. Tells (IsLineTold ls line) text text (detailed before) (detailed after))
-quiet_tells detailed None ls line text quiet = tt
-quiet_tells detailed (Some x) ls line text quiet = quiet_told ls line text (detailed x) quiet
+pub quiet_tells : {X : Type 0} (detailed : X → ℕ) (o : Option X) (ls : List Line) (line : Line) (text : List ℕ) (nos nos_now : ℕ) → IsQuiet line → nos_now ≡ nos → IfBoth o o (λ before after. TellsAll (IsLineTold ls line) text text (detailed before) (detailed after) nos nos_now)
+quiet_tells detailed None ls line text nos nos_now quiet same = tt
+quiet_tells detailed (Some x) ls line text nos nos_now quiet same = quiet_told ls line text (detailed x) nos nos_now quiet same
 
 -- there is a first engine before and after
 pub both_are : {X : Type 0} (xs ys : List X) (Is : X → X → Type 0) (P : Type 0) → 1 ≤ length xs → length ys ≡ length xs → IfBoth (slice_get xs 0) (slice_get ys 0) Is → ((x y : X) → Is x y → P) → P

@@ -6,7 +6,7 @@ use Rattle.std.specs.List.Sorted.{IsStrictlySortedBy}
 use Rattle.std.specs.Ordering.{nat_cmp}
 use Rattle.std.proofs.lemmas.List.{length-map}
 use Rattle.std.proofs.lemmas.List.Elements.{All-contains, All-contains_itself, All-map, All-weaker}
-use Rattle.std.proofs.lemmas.Option.{get_or_from_slice_get, same_Some, slice_get-get_or, slice_get_within}
+use Rattle.std.proofs.lemmas.Option.{get_or_from_slice_get, same_Some, slice_get_within}
 use Rattle.std.proofs.lemmas.Slice.Zip.{length-zip}
 use Rattle.board_core.specs.declared.row.KeptRow.{KeptRow}
 use Rattle.board_core.specs.declared.row.Words.{Words}
@@ -22,7 +22,6 @@ use Rattle.deck_check.specs.TypedDeck.{limit}
 use Rattle.plan_program.specs.Plans.{layer_at}
 use Rattle.plant_data.specs.Rows.{IsRow}
 use Rattle.plant_data.specs.declared.row.Limit.{Limit}
-use Rattle.plant_data.specs.declared.row.Row.{Row}
 use Rattle.sim_engine.specs.Row.{row_of}
 use Rattle.sim_sweep.specs.Cases.{AreRising, AreRowsOf, IsJob, IsKept, Job, accepted_layer, accepted_layers, demands_at, is_accepted, kept_row, limit_at, simulated_row}
 use Rattle.sim_sweep.specs.Demands.{IsFilled}
@@ -30,7 +29,7 @@ use Rattle.sim_sweep.specs.Kept.{AreDue, row_words, words_in, words_row}
 use Rattle.sim_sweep.specs.declared.demand.Demand.{Demand}
 use Rattle.wasp_session.proofs.EachSteps.{at_place}
 use Rattle.wasp_session.proofs.AskSteps.{all_zip, in_map, one_demand, year_all, year_is}
-use Rattle.wasp_session.specs.Case.{IsLayerOf, IsTableOf, accepted_of}
+use Rattle.wasp_session.specs.Case.{IsTableOf}
 use Rattle.wasp_session.specs.Steps.{AreLimits, AreYearLists, HasYears, case_demands, year_demands}
 use Rattle.year_system.specs.Code.{code_of}
 use Rattle.year_system.specs.System.{Fits, System, greatest}

@@ -1,21 +1,21 @@
 -- Tellings, one behind the other.
-use Rattle.std.proofs.Common.{◌≡◌, ◌∙◌, ap, sym, refl, ℕ, ◌+◌, List, [], ◌∷◌, ◌++◌, append_assoc, arith}
+use Rattle.std.proofs.Common.{◌≡◌, ◌∙◌, ap, sym, refl, ℕ, List, [], ◌∷◌, ◌++◌, append_assoc, arith}
 use Rattle.std.proofs.lemmas.List.{append-nil}
 use Rattle.deck_lines.specs.declared.line.Line.{Line}
 use Rattle.wasp_session.specs.Case.{Told}
-use Rattle.wasp_session.specs.Said.{AreJoined, AreTold, AreToldAfter, IsLineTold, TellingGoesOn, Tells, joined, nothing, plain}
+use Rattle.wasp_session.specs.Said.{AreJoined, AreToldAfter, IsLineTold, TellingGoesOn, Tells, joined, nothing, plain}
 
-pub same_told : (x y : Told) → x.text ≡ y.text → x.chosen ≡ y.chosen → x ≡ y
-same_told x y e f = λ i. record { text = e i; chosen = f i }
+pub same_told : (x y : Told) → x.text ≡ y.text → x.chosen ≡ y.chosen → x.nos ≡ y.nos → x ≡ y
+same_told x y e f g = λ i. record { text = e i; chosen = f i; nos = g i }
 
 pub joined_assoc : (a b c : Told) → joined (joined a b) c ≡ joined a (joined b c)
-joined_assoc a b c = same_told _ _ (append_assoc a.text b.text c.text) (omega arith)
+joined_assoc a b c = same_told _ _ (append_assoc a.text b.text c.text) (omega arith) (omega arith)
 
 pub joined_nothing : (a : Told) → joined a nothing ≡ a
-joined_nothing a = same_told _ _ (append-nil a.text) (omega arith)
+joined_nothing a = same_told _ _ (append-nil a.text) (omega arith) (omega arith)
 
 pub nothing_joined : (a : Told) → joined nothing a ≡ a
-nothing_joined a = same_told _ _ refl (omega arith)
+nothing_joined a = same_told _ _ refl (omega arith) (omega arith)
 
 -- one telling and then another
 pub tells_then : (One Other : Told → Type 0) (a b c : List ℕ) (x y z : ℕ) → Tells One a b x y → Tells Other b c y z → Tells (AreJoined One Other) a c x z

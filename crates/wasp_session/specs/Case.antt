@@ -1,7 +1,7 @@
 -- The report of a case of a deck: the table of its accepted configurations, the solution of this table, and the
 -- years of the chosen plan with their tunnels, terms, rows and generations. After the modules MERSIM, DYNPRO and
 -- REPROBAT of the IAEA's Computer Manual Series No. 16.
-use Rattle.std.specs.Prelude.{◌≡◌, ◌==◌, ℕ, ◌+◌, ◌-◌, ◌<◌, List, [], ◌∷◌, length, map, filter, nat_lt, Option, None, Some, slice_index, slice_index_or, if◌then◌else◌}
+use Rattle.std.specs.Prelude.{◌≡◌, ◌==◌, ℕ, ◌+◌, ◌-◌, ◌<◌, List, [], ◌∷◌, length, map, filter, nat_lt, Option, None, slice_index, slice_index_or, if◌then◌else◌}
 use Rattle.std.specs.List.{filter_map, range_with_len}
 use Rattle.std.specs.Option.{option_map}
 use Rattle.cost_terms.specs.Cost.{build, fuel, nothing_built, salvage, stock, unserved, upkeep}
@@ -19,7 +19,7 @@ use Rattle.plan_program.specs.Chosen.{IsSolution}
 use Rattle.plan_program.specs.Plans.{layer_at}
 use Rattle.plant_data.specs.declared.plant.Plant.{Plant}
 use Rattle.plant_data.specs.declared.row.Limit.{Limit}
-use Rattle.report_text.specs.Report.{case_text, plan_of}
+use Rattle.report_text.specs.Report.{plan_of}
 use Rattle.report_text.specs.declared.data.CaseReport.{CaseReport}
 use Rattle.report_text.specs.declared.data.Generation.{Generation}
 use Rattle.report_text.specs.declared.data.PlanYear.{PlanYear}
@@ -119,14 +119,8 @@ pub record IsReportOf (d : Says) (c : ℕ) (report : CaseReport) : Type 0 where
   pub plan : map (λ y. y.config) report.years ≡ plan_of report.solved.outcome
   pub years : AreYearsFrom d c 1 (nothing_built (costs d)) report.years
 
--- a text, and how many CHOSEN lines it has
+-- a text, how many CHOSEN lines it has, and how many times a check says NO in it
 pub record Told : Type 0 where
   pub text : List ℕ
   pub chosen : ℕ
-
--- what is told of a case
-pub record IsCaseTold (d : Says) (c : ℕ) (told : Told) : Type 0 where
-  pub report : CaseReport
-  pub is_of : IsReportOf d c report
-  pub text : told.text ≡ case_text c report
-  pub chosen : told.chosen ≡ length report.years
+  pub nos : ℕ

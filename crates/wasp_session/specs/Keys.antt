@@ -1,12 +1,15 @@
 -- The keys that a script demands: year systems with configurations. A PLAN that is not refused demands those of
--- all configurations that are listed for its cases and years. Each is simulated once in a run, whatever was
--- edited between two PLANs, since the key has all the data of its year. This program's own.
-use Rattle.std.specs.Prelude.{◌≡◌, ◌≢◌, ℕ, ◌⊎◌, ◌↔◌, List, [], ◌∷◌, ◌++◌, Contains, AllPairs, length}
+-- all configurations that are listed for its cases and years, and a CHECK those of its case, where its ENDCHECK
+-- stands in the lines and it is neither refused nor failed in its form. Each is simulated once in a run, whatever
+-- was edited between two lines, since the key has all the data of its year. This program's own.
+use Rattle.std.specs.Prelude.{◌≡◌, ◌≢◌, ℕ, ◌⊎◌, ◌↔◌, List, [], ◌∷◌, ◌++◌, Contains, AllPairs, Option, None, Some, length}
+use Rattle.deck_check.specs.DeckFault.{HasNoFault}
 use Rattle.deck_check.specs.Readings.{Says, system}
 use Rattle.deck_lines.specs.Deck.{deck_at}
 use Rattle.deck_lines.specs.declared.line.Line.{Line}
 use Rattle.deck_lines.specs.declared.line.Line.TheVariants as lines
 use Rattle.sim_engine.specs.Engine.{Run}
+use Rattle.wasp_session.specs.Checks.{AreWithin, IsInForm, Open, open_at}
 use Rattle.wasp_session.specs.Listings.{IsListedOf, IsOf, IsTaken}
 
 -- a key of a deck: the system of a year with a configuration that is listed for a case and this year
@@ -21,15 +24,35 @@ pub record IsKeyOf (d : Says) (key : Run) : Type 0 where
 abbrev pub Demands : Says → Run → Type 0
 Demands d key = IsTaken d × IsKeyOf d key
 
--- a line demands it on a deck
-abbrev pub DemandsOn : Says → Line → Run → Type 0
-DemandsOn d lines.Plan key = Demands d key
-DemandsOn d _ key = ⊥
+-- a key of one case of a deck
+pub record IsCaseKeyOf (d : Says) (c : ℕ) (key : Run) : Type 0 where
+  pub year : ℕ
+  pub is_of : IsOf d c year
+  pub of_year : key.0 ≡ system d year
+  pub listed : IsListedOf d c year key.1
+
+-- a CHECK demands it that is neither refused nor failed in its form
+pub record DemandsChecked (d : Says) (o : Open) (key : Run) : Type 0 where
+  pub faultless : HasNoFault d
+  pub in_form : IsInForm d o
+  pub within : AreWithin d o.case
+  pub is_key : IsCaseKeyOf d o.case key
+
+-- the ENDCHECK of an open CHECK demands it
+abbrev pub DemandsAtEnd : Says → Option Open → Run → Type 0
+DemandsAtEnd d None key = ⊥
+DemandsAtEnd d (Some o) key = DemandsChecked d o key
+
+-- a line demands it on a deck, where this CHECK is open
+abbrev pub DemandsOn : Says → Option Open → Line → Run → Type 0
+DemandsOn d o lines.Plan key = Demands d key
+DemandsOn d o lines.EndCheck key = DemandsAtEnd d o key
+DemandsOn d o _ key = ⊥
 
 -- lines behind others demand it, and the lines of a script
 abbrev pub IsDemandedAfter : List Line → List Line → Run → Type 0
 IsDemandedAfter before [] key = ⊥
-IsDemandedAfter before (line ∷ ls) key = DemandsOn (deck_at before) line key ⊎ IsDemandedAfter (before ++ line ∷ []) ls key
+IsDemandedAfter before (line ∷ ls) key = DemandsOn (deck_at before) (open_at before) line key ⊎ IsDemandedAfter (before ++ line ∷ []) ls key
 
 abbrev pub IsDemandedBy : List Line → Run → Type 0
 IsDemandedBy ls key = IsDemandedAfter [] ls key

@@ -1,6 +1,9 @@
+pub mod Accepted
 pub mod Case
+pub mod Checks
 pub mod Keys
 pub mod Listings
+pub mod Modes
 pub mod Said
 pub mod State
 pub mod Steps

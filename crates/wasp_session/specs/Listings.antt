@@ -62,6 +62,13 @@ pub record IsFirstOver (d : Says) (r : Refusal) : Type 0 where
   pub over : IsOver d case year r
   pub earlier : (c t : ℕ) → IsOf d c t → ComesBefore c t case year → IsWithin d c t
 
+-- the refusal is of the first year of a case over a limit
+pub record IsOverIn (d : Says) (c : ℕ) (r : Refusal) : Type 0 where
+  pub year : ℕ
+  pub is_of : IsOf d c year
+  pub over : IsOver d c year r
+  pub earlier : (t : ℕ) → 1 ≤ t → t < year → IsWithin d c t
+
 -- why a PLAN on a deck is refused: the fault table comes first
 abbrev pub IsRefusalOf : Says → Refusal → Type 0
 IsRefusalOf d (Deck fault) = IsFaultOf d fault

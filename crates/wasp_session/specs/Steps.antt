@@ -6,16 +6,14 @@ use Rattle.deck_check.specs.Readings as says
 use Rattle.deck_check.specs.Readings.{Says, cases, system, years}
 use Rattle.deck_check.specs.TypedDeck.{limit}
 use Rattle.plant_data.specs.declared.row.Limit.{Limit}
-use Rattle.report_text.specs.declared.refusals.Refusal.{Refusal}
 use Rattle.sim_sweep.specs.declared.demand.Demand.{Demand}
 use Rattle.cost_terms.specs.declared.entries.Scored.{Scored}
 use Rattle.plan_program.specs.Plans.{entry_at}
 use Rattle.sim_engine.specs.Engine.{Room, Run, Tape}
 use Rattle.board_core.specs.declared.row.KeptRow.{KeptRow}
-use Rattle.sim_sweep.specs.Kept.{AreDue}
 use Rattle.sim_sweep.specs.Told.{CanTell, GainsOnly}
 use Rattle.wasp_session.specs.State.{IsKeptKey}
-use Rattle.wasp_session.specs.Listings.{IsFairListing, IsOf, IsOver, IsWithin}
+use Rattle.wasp_session.specs.Listings.{IsFairListing}
 use Rattle.year_system.specs.Code.{code_of}
 use Rattle.year_system.specs.System.{Fits, System, cells, greatest, unit_limit}
 
@@ -47,13 +45,6 @@ pub record AreYearLists (d : Says) (c : ℕ) (lists : List (List (List ℕ))) : 
 pub record AreCaseLists (d : Says) (lists : List (List (List (List ℕ)))) : Type 0 where
   pub many : length lists ≡ cases d
   pub each : EachAt (λ k years. AreYearLists d (k + 1) years) lists
-
--- the refusal is of the first year of a case over a limit
-pub record IsOverIn (d : Says) (c : ℕ) (r : Refusal) : Type 0 where
-  pub year : ℕ
-  pub is_of : IsOf d c year
-  pub over : IsOver d c year r
-  pub earlier : (t : ℕ) → 1 ≤ t → t < year → IsWithin d c t
 
 -- the book has grown, by no more than so many systems
 pub record HasGrown (before now : List System) (most : ℕ) : Type 0 where

@@ -39,7 +39,7 @@ fn push_demands(
 }
 
 /// Adds those of each year of a case.
-fn push_years(
+pub(crate) fn push_years(
     book: &Book,
     ids: &[u64],
     lists: &[Listed<Config>],

@@ -1,8 +1,9 @@
 //! What the plants, candidates and groups of a planned year generate.
-ghost use Rattle.std.specs.Prelude.{◌≡◌, ℕ, ◌+◌, ◌-◌, ◌^◌, ◌<◌, ◌≤◌, ◌++◌, [], ◌∷◌, List, length, IfOk, OnOk, slice_index};
+ghost use Rattle.std.specs.Prelude.{◌≡◌, ℕ, ◌+◌, ◌-◌, ◌^◌, ◌<◌, ◌≤◌, ◌++◌, [], ◌∷◌, All, List, length, IfOk, OnOk, slice_index};
 ghost use Rattle.std.specs.List.{filter_map, range_with_len};
 ghost use Rattle.deck_check.specs.Readings as says;
 ghost use Rattle.deck_lines.specs.Deck.{body_of};
+ghost use Rattle.report_text.specs.ReadBack.{IsPrintableGeneration};
 ghost use Rattle.sim_engine.specs.Generation.{generations};
 ghost use Rattle.wasp_session.specs.Case.{generation_at, generation_of, generations_of, generator_at, standing_at};
 ghost use Rattle.year_system.specs.System.{Fits, cells, unit_limit};
@@ -49,13 +50,16 @@ fn push_generation(
     energy: u64,
     generations: &mut Vec<Generation>,
 ) -> Result<(), OutOfMemory>
-    ensures { OnOk result (generations.new.items ≡ generations.old.items ++ filter_map (λ (k : ℕ). generation_of (body_of typed.now) id standing energy) (0 ∷ [])) }
+    ensures pushed { OnOk result (generations.new.items ≡ generations.old.items ++ filter_map (λ (k : ℕ). generation_of (body_of typed.now) id standing energy) (0 ∷ [])) }
+    ensures printable { OnOk result (All IsPrintableGeneration generations.old.items → All IsPrintableGeneration generations.new.items) }
 {
     if standing == 0 {
         return Ok(());
     }
     match typed.plant_name(id) {
         Some(name) => {
+            // Its reading tells the proof that the bytes are those of a name.
+            let _bytes = name.as_bytes();
             generations.push(Generation { id, name, energy })?;
             Ok(())
         }
@@ -73,7 +77,8 @@ fn name_generations(
 ) -> Result<Generations, OutOfMemory>
     requires fits { Fits system.now config.now }
     requires places { length energies.now ≡ length system.now.existing + length system.now.thermal + length system.now.groups }
-    ensures { IfOk result (λ gs. gs ≡ filter_map (generation_at (body_of typed.now) system.now config.now energies.now) (range_with_len 0 (length energies.now))) }
+    ensures value { IfOk result (λ gs. gs ≡ filter_map (generation_at (body_of typed.now) system.now config.now energies.now) (range_with_len 0 (length energies.now))) }
+    ensures printable { IfOk result (λ gs. All IsPrintableGeneration gs) }
 {
     let mut generations = Vec::new(alloc);
     for k in 0..energies.len() {
@@ -98,6 +103,7 @@ pub(crate) fn year_generations<E: SimEngine>(
     requires units { unit_limit system.now ≤ (E.room engine.old).units }
     requires count { E.detailed engine.old < 2 ^ 64 - 1 }
     ensures value { IfOk result (λ gs. gs ≡ generations_of (body_of typed.now) year config.now) }
+    ensures printable { IfOk result (λ gs. All IsPrintableGeneration gs) }
     ensures detailed { OnOk result (E.detailed engine.new ≡ E.detailed engine.old + 1) }
     ensures cells_stay { (E.room engine.old).cells ≤ (E.room engine.new).cells }
     ensures units_stay { (E.room engine.old).units ≤ (E.room engine.new).units }

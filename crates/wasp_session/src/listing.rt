@@ -3,8 +3,8 @@ ghost use Rattle.std.specs.Prelude.{◌≡◌, ◌≤◌, IfOk, IsErrOf};
 ghost use Rattle.deck_check.specs.Readings as says;
 ghost use Rattle.deck_lines.specs.Deck.{body_of};
 ghost use Rattle.report_text.specs.declared.refusals.Refusal.{Refusal as Refused};
-ghost use Rattle.wasp_session.specs.Listings.{IsFirstOver, IsOf, IsOver};
-ghost use Rattle.wasp_session.specs.Steps.{AreCaseLists, AreSystems, AreYearLists, IsOverIn, IsYearList, IsYearSystem};
+ghost use Rattle.wasp_session.specs.Listings.{IsFirstOver, IsOf, IsOver, IsOverIn};
+ghost use Rattle.wasp_session.specs.Steps.{AreCaseLists, AreSystems, AreYearLists, IsYearList, IsYearSystem};
 
 use deck_check::TypedDeck;
 use plant_data::{Config, Listed};
@@ -63,7 +63,7 @@ fn list_year(
 }
 
 /// Those of each year of a case, or the first year over a limit.
-fn list_case(
+pub(crate) fn list_case(
     alloc: Global,
     typed: &TypedDeck,
     systems: &[YearSystem],

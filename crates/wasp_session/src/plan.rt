@@ -4,10 +4,9 @@ ghost use Rattle.deck_check.specs.Readings as says;
 ghost use Rattle.deck_lines.specs.Deck.{body_of};
 ghost use Rattle.sim_sweep.specs.Demands.{IsFilled};
 ghost use Rattle.sim_sweep.specs.Kept.{AreDue};
-ghost use Rattle.wasp_session.specs.Case.{IsCaseTold};
 ghost use Rattle.wasp_session.specs.Keys.{Demands, IsKeyOf};
 ghost use Rattle.wasp_session.specs.Listings.{IsTaken};
-ghost use Rattle.wasp_session.specs.Said.{AreCasesTold, IsDeckTold, IsPlanTold, Tells};
+ghost use Rattle.wasp_session.specs.Said.{AreCasesTold, IsCaseTold, IsDeckTold, IsPlanTold, Tells};
 ghost use Rattle.wasp_session.specs.State.{AreOnes};
 ghost use Rattle.wasp_session.specs.Steps as spec;
 ghost use Rattle.wasp_session.specs.Steps.{AreCaseLists, AreSystems, AreYearLists, HasGrown, HasYearRoom, HasYears, Simulates};
@@ -19,8 +18,9 @@ use crate::report::report_case;
 use crate::settling::settle_case;
 use deck_check::{CheckError, TypedDeck, check, faults_are_met};
 use deck_lines::Deck;
+use plan_certificate::{readings_are_one, solutions_are_certified};
 use plant_data::{Config, Listed};
-use report_text::{Refusal, write_case, write_heading, write_refusal};
+use report_text::{Refusal, reports_read_back, write_case, write_heading, write_refusal};
 use sim_engine::SimEngine;
 use sim_sweep::{Kept, due_rows_stand, fill, new_codes_come_once};
 use std::alloc::Global;
@@ -28,7 +28,7 @@ use tunnel_configs::listings_are_one;
 use wasp_fixed::OutOfMemory;
 use year_system::{Book, YearSystem};
 
-/// Settles a case, and tells it.
+/// Settles a case, and tells it. What is told is accepted by the checker on the same deck.
 fn tell_case<E: SimEngine>(
     alloc: Global,
     typed: &TypedDeck,
@@ -56,6 +56,11 @@ fn tell_case<E: SimEngine>(
     ensures runs { E.runs engine.new ≡ E.runs engine.old }
     ensures tape { E.tape engine.new ≡ E.tape engine.old }
 {
+    // Its reading tells the proof that the deck has no fault. By the laws the report is accepted as a certificate.
+    let _years = typed.years();
+    reports_read_back();
+    solutions_are_certified();
+    readings_are_one();
     let done = settle_case(alloc, typed, book, ids, kept, case, lists)?;
     let report = report_case(alloc, typed, book, ids, case, done, engine)?;
     write_case(case, &report, text)

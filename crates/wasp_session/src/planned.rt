@@ -8,6 +8,7 @@ ghost use Rattle.deck_check.specs.Readings as says;
 ghost use Rattle.deck_lines.specs.Deck.{body_of};
 ghost use Rattle.plan_program.specs.Chosen.{IsPlanOf};
 ghost use Rattle.plant_data.specs.Configs.{IsAtMost};
+ghost use Rattle.report_text.specs.ReadBack.{IsPrintableYear};
 ghost use Rattle.report_text.specs.Report.{HasWidths};
 ghost use Rattle.sim_engine.specs.Row.{row_of};
 ghost use Rattle.wasp_session.specs.Case.{AreYearsFrom, IsTableOf, IsYearOf};
@@ -63,6 +64,7 @@ fn plan_year<E: SimEngine>(
     ensures year { IfOk result (λ y. IsYearOf (body_of typed.now) case year before.now y) }
     ensures config { IfOk result (λ y. y.config ≡ entry.now.config) }
     ensures widths { IfOk result (λ y. HasWidths (says.greatest (body_of typed.now)) y) }
+    ensures printable { IfOk result (λ y. IsPrintableYear y) }
     ensures detailed { OnOk result (E.detailed engine.new ≡ E.detailed engine.old + 1) }
     ensures cells_stay { (E.room engine.old).cells ≤ (E.room engine.new).cells }
     ensures units_stay { (E.room engine.old).units ≤ (E.room engine.new).units }
@@ -102,6 +104,7 @@ pub(crate) fn plan_years<E: SimEngine>(
     ensures years { IfOk result (λ ys. AreYearsFrom (body_of typed.now) case 1 (nothing_built (costs (body_of typed.now))) ys) }
     ensures configs { IfOk result (λ ys. map (λ y. y.config) ys ≡ configs.now) }
     ensures widths { IfOk result (λ ys. All (HasWidths (says.greatest (body_of typed.now))) ys) }
+    ensures printable { IfOk result (λ ys. All IsPrintableYear ys) }
     ensures detailed { OnOk result (E.detailed engine.new ≡ E.detailed engine.old + length configs.now) }
     ensures few { length configs.now ≤ 30 }
     ensures cells_stay { (E.room engine.old).cells ≤ (E.room engine.new).cells }

@@ -2,10 +2,12 @@
 ghost use Rattle.std.specs.Prelude.{◌≡◌, ◌+◌, ◌-◌, ◌^◌, ◌<◌, ◌≤◌, All, IfOk, length, map};
 ghost use Rattle.cost_terms.specs.Cost.{nothing_built};
 ghost use Rattle.cost_terms.specs.CostData.{greatest as candidate_counts};
+ghost use Rattle.cost_terms.specs.Table.{IsTable};
 ghost use Rattle.deck_check.specs.Economy.{costs};
 ghost use Rattle.deck_check.specs.Readings as says;
 ghost use Rattle.deck_lines.specs.Deck.{body_of};
 ghost use Rattle.plan_program.specs.Chosen.{IsOutcome, IsSolution};
+ghost use Rattle.report_text.specs.ReadBack.{IsPrintable, IsPrintableYear};
 ghost use Rattle.report_text.specs.Report.{HasWidths, IsCaseReport, plan_of};
 ghost use Rattle.wasp_session.specs.Case.{AreYearsFrom, IsReportOf, IsTableOf, conditions_of};
 ghost use Rattle.wasp_session.specs.Steps.{HasYearRoom, HasYears};
@@ -69,6 +71,7 @@ fn years_of<E: SimEngine>(
     ensures years { IfOk result (λ ys. AreYearsFrom (body_of typed.now) case 1 (nothing_built (costs (body_of typed.now))) ys) }
     ensures plan { IfOk result (λ ys. map (λ y. y.config) ys ≡ plan_of outcome.now) }
     ensures widths { IfOk result (λ ys. All (HasWidths (says.greatest (body_of typed.now))) ys) }
+    ensures printable { IfOk result (λ ys. All IsPrintableYear ys) }
     ensures detailed { IfOk result (λ ys. E.detailed engine.new ≡ E.detailed engine.old + length ys) }
     ensures few { IfOk result (λ ys. length ys ≤ 30) }
     ensures cells_stay { (E.room engine.old).cells ≤ (E.room engine.new).cells }
@@ -114,6 +117,8 @@ pub(crate) fn report_case<E: SimEngine>(
     requires count { E.detailed engine.old + 30 < 2 ^ 64 - 1 }
     ensures report { IfOk result (λ report. IsReportOf (body_of typed.now) case report) }
     ensures in_form { IfOk result (λ report. IsCaseReport report) }
+    ensures table { IfOk result (λ report. IsTable report.table) }
+    ensures printable { IfOk result (λ report. IsPrintable case report) }
     ensures detailed { IfOk result (λ report. E.detailed engine.new ≡ E.detailed engine.old + length report.years) }
     ensures few { IfOk result (λ report. length report.years ≤ 30) }
     ensures cells_stay { (E.room engine.old).cells ≤ (E.room engine.new).cells }

@@ -1,23 +1,28 @@
 //! The session of a run.
-ghost use Rattle.std.specs.Prelude.{◌≡◌, ℕ, ◌+◌, ◌-◌, ◌^◌, ◌<◌, ◌≤◌, ◌↔◌, [], ◌∷◌, ◌++◌, List, IfOk, IfSome, IsErr, IsTrue, OnErr, OnOk, All, drop, false, length, slice_get};
+ghost use Rattle.std.specs.Prelude.{◌≡◌, ℕ, ◌+◌, ◌-◌, ◌^◌, ◌<◌, ◌≤◌, ◌↔◌, [], ◌∷◌, ◌++◌, List, IfOk, IfSome, IsErr, IsTrue, None, OnErr, OnOk, All, Some, drop, false, length, slice_get, if◌then◌else◌};
 ghost use Rattle.deck_lines.specs.Deck.{body_of, put, without};
-ghost use Rattle.deck_lines.specs.Grammar.{IsLine};
+ghost use Rattle.deck_lines.specs.Grammar.{IsCertLine, IsLine};
 ghost use Rattle.deck_lines.specs.Statements.{IsStatement};
 ghost use Rattle.report_text.specs.Lines.{keys_line};
 ghost use Rattle.deck_lines.specs.declared.line.Line.{Line as Stated};
 ghost use Rattle.deck_lines.specs.declared.line.Line.TheVariants as lines;
-ghost use Rattle.deck_lines.specs.declared.line.Mode.TheVariants as modes;
-ghost use Rattle.wasp_session.specs.Keys.{CountsKeys, Demands, DemandsOn};
+ghost use Rattle.wasp_session.specs.Checks.{check_count, nos_of, with_line};
+ghost use Rattle.wasp_session.specs.Keys.{CountsKeys, Demands, DemandsAtEnd, DemandsOn};
 ghost use Rattle.wasp_session.specs.Listings.{IsTaken};
-ghost use Rattle.wasp_session.specs.Said.{IsLineTold, IsPlanTold, Tells, plan_count};
+ghost use Rattle.wasp_session.specs.Modes.{IsOfMode, mode_of};
+ghost use Rattle.wasp_session.specs.Said.{IsCheckTold, IsLineTold, IsPlanTold, Tells, TellsAll, plan_count};
 ghost use Rattle.wasp_session.specs.State.{Follows, IsState};
 ghost use Rattle.wasp_session.specs.Steps.{HasCountsLeft, IfBoth, Simulates};
+ghost use Rattle.wasp_session.specs.declared.command.Command.TheVariants as commands;
 ghost use Rattle.wasp_session.specs.declared.command.Step.TheVariants as steps;
 
+use crate::checking::judge_deck;
 use crate::command::{Command, Step};
+use crate::opened::OpenCheck;
 use crate::plan::plan_deck;
-use deck_lines::{Deck, Head, Line, Mode, Statement};
-use report_text::write_keys;
+use deck_lines::{CertLine, Deck, Head, Line, Mode, Statement};
+use plan_certificate::Verdict;
+use report_text::{Judged, write_keys, write_verdict};
 use sim_engine::SimEngine;
 use sim_sweep::Kept;
 use std::alloc::Global;
@@ -25,8 +30,20 @@ use std::marker::Model;
 use wasp_fixed::OutOfMemory;
 use year_system::Book;
 
-/// The deck as edited so far, the book of the systems, the rows that are kept, the number of PLAN lines, and whether
-/// memory was wanting.
+/// How many times a check says NO: once, or not at all, as a refused one.
+fn count_no(judged: &Judged) -> u64
+    ensures count { result ≡ nos_of judged.now }
+    ensures most { result ≤ 1 }
+{
+    if matches!(judged, Judged::Form(_) | Judged::Said(Verdict::No(_))) {
+        1
+    } else {
+        0
+    }
+}
+
+/// The deck as edited so far, the book of the systems, the rows that are kept, the numbers of PLAN and CHECK lines, the
+/// open CHECK, how many checks said NO, and whether memory was wanting.
 #[derive(Drop)]
 pub struct Session {
     alloc: Global,
@@ -35,6 +52,9 @@ pub struct Session {
     book: Book,
     kept: Kept,
     plans: u64,
+    checks: u64,
+    opened: Option<OpenCheck>,
+    nos: u64,
     refused: bool,
 }
 
@@ -43,15 +63,15 @@ impl Model for Session {
 
     ghost Value = { State };
 
-    ghost view = { λ s. record { deck = s.deck; book = s.book; kept = s.kept; plans = s.plans; refused = s.refused } };
+    ghost view = { λ s. record { command = s.command; deck = s.deck; book = s.book; kept = s.kept; plans = s.plans; checks = s.checks; opened = s.opened; nos = s.nos; refused = s.refused } };
 
-    ghost invariant = { λ s. IsState (record { deck = s.deck; book = s.book; kept = s.kept; plans = s.plans; refused = s.refused }) };
+    ghost invariant = { λ s. IsState (record { command = s.command; deck = s.deck; book = s.book; kept = s.kept; plans = s.plans; checks = s.checks; opened = s.opened; nos = s.nos; refused = s.refused }) };
 }
 
 impl Session {
     /// A session of no line. It takes no memory.
     pub fn start(alloc: Global, command: Command) -> Session
-        ensures empty { result ≡ record { deck = []; book = []; kept = []; plans = 0; refused = false } }
+        ensures empty { result ≡ record { command = command; deck = []; book = []; kept = []; plans = 0; checks = 0; opened = None; nos = 0; refused = false } }
         ensures follows { Follows [] result }
     {
         Session::with_deck(alloc, command, Deck::new(alloc))
@@ -59,7 +79,7 @@ impl Session {
 
     /// The same with a deck.
     pub fn with_deck(alloc: Global, command: Command, deck: Deck) -> Session
-        ensures { result ≡ record { deck = deck; book = []; kept = []; plans = 0; refused = false } }
+        ensures { result ≡ record { command = command; deck = deck; book = []; kept = []; plans = 0; checks = 0; opened = None; nos = 0; refused = false } }
     {
         Session {
             alloc,
@@ -68,16 +88,26 @@ impl Session {
             book: Book::new(alloc),
             kept: Kept::new(alloc),
             plans: 0,
+            checks: 0,
+            opened: None,
+            nos: 0,
             refused: false,
         }
     }
 
-    /// How the next line is read.
+    /// How the next line is read: as one of a certificate from a CHECK line to its ENDCHECK.
     pub fn mode(&self) -> Mode
-        ensures { result ≡ modes.Plan }
+        ensures { result ≡ mode_of self.now.command self.now.opened }
     {
         match self.command {
             Command::Plan => Mode::Plan,
+            Command::Check => {
+                if self.opened.is_some() {
+                    Mode::Certificate
+                } else {
+                    Mode::Check
+                }
+            }
         }
     }
 
@@ -90,11 +120,11 @@ impl Session {
         self.kept.len()
     }
 
-    /// Whether a check said no, which no line of a plan does.
+    /// Whether a check said NO.
     pub fn said_no(&self) -> bool
-        ensures { result ≡ false }
+        ensures { IsTrue result ↔ (1 ≤ self.now.nos) }
     {
-        false
+        self.nos > 0
     }
 
     /// How many PLAN lines there were.
@@ -106,12 +136,22 @@ impl Session {
         self.plans
     }
 
+    /// How many CHECK lines there were.
+    pub fn checks(&self) -> u64
+        ensures value { result ≡ self.now.checks }
+        ensures most { result ≤ 64 }
+        ensures valid { IsState self.now }
+    {
+        self.checks
+    }
+
     /// Plans by an engine, behind the flag.
     fn plan_by<E: SimEngine>(
         &mut self,
         engine: &mut E,
         text: &mut Vec<u8>,
     ) -> Result<(), OutOfMemory>
+        requires command { self.old.command ≡ commands.Plan }
         requires plans { self.old.plans < 64 }
         requires simulated_left { E.simulated engine.old + 120000 < 2 ^ 64 - 1 }
         requires detailed_left { E.detailed engine.old + 240 < 2 ^ 64 - 1 }
@@ -120,8 +160,9 @@ impl Session {
         ensures refusal { OnOk result ((IsTaken (body_of self.old.deck) → ⊥) → (self.new.book ≡ self.old.book) × (self.new.kept ≡ self.old.kept)) }
         ensures years { OnOk result (E.detailed engine.new ≤ E.detailed engine.old + 240) }
         ensures tape { E.tape engine.new ≡ E.tape engine.old }
-        ensures plans { OnOk result (self.new.plans ≡ self.old.plans + 1) }
+        ensures state { OnOk result (self.new ≡ record self.old { book = self.new.book; kept = self.new.kept; plans = self.old.plans + 1 }) }
         ensures deck { self.new.deck ≡ self.old.deck }
+        ensures command { self.new.command ≡ self.old.command }
         ensures err_text { OnErr result (text.new.items ≡ text.old.items) }
         ensures err { IsTrue self.new.refused ↔ IsErr result }
         ensures later { IsTrue self.old.refused → IsErr result }
@@ -157,6 +198,7 @@ impl Session {
     ) -> Result<(), OutOfMemory>
         requires some { 1 ≤ length engines.old }
         requires most { length engines.old ≤ 64 }
+        requires command { self.old.command ≡ commands.Plan }
         requires plans { self.old.plans < 64 }
         requires counts { IfSome (slice_get engines.old 0) (λ e. HasCountsLeft (E.simulated e) (E.detailed e)) }
         ensures told { OnOk result (IfBoth (slice_get engines.old 0) (slice_get engines.new 0) (λ before after. Tells (IsPlanTold (body_of self.old.deck) (self.old.plans + 1)) text.old.items text.new.items (E.detailed before) (E.detailed after))) }
@@ -167,8 +209,9 @@ impl Session {
 
         // A refused one leaves the book and the rows.
         ensures refusal { OnOk result ((IsTaken (body_of self.old.deck) → ⊥) → (self.new.book ≡ self.old.book) × (self.new.kept ≡ self.old.kept)) }
-        ensures plans { OnOk result (self.new.plans ≡ self.old.plans + 1) }
+        ensures state { OnOk result (self.new ≡ record self.old { book = self.new.book; kept = self.new.kept; plans = self.old.plans + 1 }) }
         ensures deck { self.new.deck ≡ self.old.deck }
+        ensures command { self.new.command ≡ self.old.command }
         ensures err_text { OnErr result (text.new.items ≡ text.old.items) }
         ensures err { IsTrue self.new.refused ↔ IsErr result }
         ensures later { IsTrue self.old.refused → IsErr result }
@@ -181,6 +224,7 @@ impl Session {
         requires { IsStatement statement }
         ensures deck { OnOk result (self.new ≡ record self.old { deck = put self.old.deck statement }) }
         ensures err_deck { OnErr result (self.new.deck ≡ self.old.deck) }
+        ensures command { self.new.command ≡ self.old.command }
         ensures err { IsTrue self.new.refused ↔ IsErr result }
         ensures later { IsTrue self.old.refused → IsErr result }
     {
@@ -200,11 +244,109 @@ impl Session {
         self.deck.drop_head(head);
     }
 
+    /// Opens a CHECK of a case, which takes no memory.
+    fn begin(&mut self, case: u64)
+        requires command { self.old.command ≡ commands.Check }
+        requires first { 1 ≤ case }
+        requires last { case ≤ 8 }
+        requires checks { self.old.checks < 64 }
+        ensures { self.new ≡ record self.old { checks = self.old.checks + 1; opened = Some (record { case = case; certificate = [] }) } }
+    {
+        self.checks += 1;
+        self.opened = Some(OpenCheck::new(self.alloc, case));
+    }
+
+    /// Keeps a line of the open certificate, behind the flag.
+    fn keep(&mut self, line: CertLine) -> Result<(), OutOfMemory>
+        requires { IsCertLine line }
+        ensures state { OnOk result (self.new ≡ record self.old { opened = with_line self.old.opened line }) }
+        ensures deck { self.new.deck ≡ self.old.deck }
+        ensures command { self.new.command ≡ self.old.command }
+        ensures err { IsTrue self.new.refused ↔ IsErr result }
+        ensures later { IsTrue self.old.refused → IsErr result }
+    {
+        if self.refused {
+            return Err(OutOfMemory);
+        }
+        self.refused = true;
+        if let Some(opened) = &mut self.opened {
+            opened.push(line)?;
+        }
+        self.refused = false;
+        Ok(())
+    }
+
+    /// Says of the open certificate what its ENDCHECK does, by an engine, behind the flag.
+    fn check_by<E: SimEngine>(
+        &mut self,
+        engine: &mut E,
+        text: &mut Vec<u8>,
+    ) -> Result<(), OutOfMemory>
+        requires command { self.old.command ≡ commands.Check }
+        requires simulated_left { E.simulated engine.old + 120000 < 2 ^ 64 - 1 }
+        ensures told { OnOk result (TellsAll (IsCheckTold (body_of self.old.deck) self.old.checks self.old.opened) text.old.items text.new.items (E.detailed engine.old) (E.detailed engine.new) self.old.nos self.new.nos) }
+        ensures keys { OnOk result (Simulates (DemandsAtEnd (body_of self.old.deck) self.old.opened) self.old.book self.old.kept self.new.book self.new.kept (E.simulated engine.old) (E.simulated engine.new) (E.tape engine.old) (E.runs engine.old) (E.runs engine.new)) }
+        ensures detailed { E.detailed engine.new ≡ E.detailed engine.old }
+        ensures tape { E.tape engine.new ≡ E.tape engine.old }
+        ensures state { OnOk result (self.new ≡ record self.old { book = self.new.book; kept = self.new.kept; nos = self.new.nos; opened = None }) }
+        ensures deck { self.new.deck ≡ self.old.deck }
+        ensures command { self.new.command ≡ self.old.command }
+        ensures err_text { OnErr result (text.new.items ≡ text.old.items) }
+        ensures err { IsTrue self.new.refused ↔ IsErr result }
+        ensures later { IsTrue self.old.refused → IsErr result }
+    {
+        if self.refused {
+            return Err(OutOfMemory);
+        }
+        let Some(opened) = self.opened.take() else {
+            return Ok(());
+        };
+        self.refused = true;
+        let judged = judge_deck(
+            self.alloc,
+            &self.deck,
+            &opened,
+            &mut self.book,
+            &mut self.kept,
+            engine,
+        )?;
+        write_verdict(self.checks, opened.case(), &judged, text)?;
+        self.nos += count_no(&judged);
+        self.refused = false;
+        Ok(())
+    }
+
+    /// Says of the open certificate what its ENDCHECK does. The first engine works.
+    fn check<E: SimEngine>(
+        &mut self,
+        engines: &mut [E],
+        text: &mut Vec<u8>,
+    ) -> Result<(), OutOfMemory>
+        requires some { 1 ≤ length engines.old }
+        requires most { length engines.old ≤ 64 }
+        requires command { self.old.command ≡ commands.Check }
+        requires counts { IfSome (slice_get engines.old 0) (λ e. HasCountsLeft (E.simulated e) (E.detailed e)) }
+        ensures told { OnOk result (IfBoth (slice_get engines.old 0) (slice_get engines.new 0) (λ before after. TellsAll (IsCheckTold (body_of self.old.deck) self.old.checks self.old.opened) text.old.items text.new.items (E.detailed before) (E.detailed after) self.old.nos self.new.nos)) }
+        ensures keys { OnOk result (IfBoth (slice_get engines.old 0) (slice_get engines.new 0) (λ before after. Simulates (DemandsAtEnd (body_of self.old.deck) self.old.opened) self.old.book self.old.kept self.new.book self.new.kept (E.simulated before) (E.simulated after) (E.tape before) (E.runs before) (E.runs after))) }
+        ensures years { OnOk result (IfBoth (slice_get engines.old 0) (slice_get engines.new 0) (λ before after. E.detailed after ≤ E.detailed before + 240)) }
+        ensures tape { IfBoth (slice_get engines.old 0) (slice_get engines.new 0) (λ before after. E.tape after ≡ E.tape before) }
+        ensures others { drop 1 engines.new ≡ drop 1 engines.old }
+        ensures state { OnOk result (self.new ≡ record self.old { book = self.new.book; kept = self.new.kept; nos = self.new.nos; opened = None }) }
+        ensures deck { self.new.deck ≡ self.old.deck }
+        ensures command { self.new.command ≡ self.old.command }
+        ensures err_text { OnErr result (text.new.items ≡ text.old.items) }
+        ensures err { IsTrue self.new.refused ↔ IsErr result }
+        ensures later { IsTrue self.old.refused → IsErr result }
+    {
+        self.check_by(&mut engines[0], text)
+    }
+
     /// Writes the number of the keys, behind the flag.
     fn end(&mut self, text: &mut Vec<u8>) -> Result<(), OutOfMemory>
         ensures text { OnOk result (text.new.items ≡ text.old.items ++ keys_line (length self.old.kept)) }
         ensures same { OnOk result (self.new ≡ self.old) }
         ensures deck { self.new.deck ≡ self.old.deck }
+        ensures command { self.new.command ≡ self.old.command }
         ensures err_text { OnErr result (text.new.items ≡ text.old.items) }
         ensures err { IsTrue self.new.refused ↔ IsErr result }
         ensures later { IsTrue self.old.refused → IsErr result }
@@ -229,19 +371,22 @@ impl Session {
         requires some { 1 ≤ length engines.old }
         requires most { length engines.old ≤ 64 }
         requires in_form { IsLine line }
+        requires mode { IsOfMode (mode_of self.old.command self.old.opened) line }
         requires plans { line ≡ lines.Plan → self.old.plans < 64 }
+        requires checks { (c : ℕ) → line ≡ lines.Check c → self.old.checks < 64 }
         requires counts { IfSome (slice_get engines.old 0) (λ e. HasCountsLeft (E.simulated e) (E.detailed e)) }
 
         // Where the session has gone through lines, it tells of this one what they make of it, and has then gone
         // through this one too.
-        ensures told { (ls : List Stated) → Follows ls self.old → OnOk result (IfBoth (slice_get engines.old 0) (slice_get engines.new 0) (λ before after. Tells (IsLineTold ls line) text.old.items text.new.items (E.detailed before) (E.detailed after))) }
+        ensures told { (ls : List Stated) → Follows ls self.old → OnOk result (IfBoth (slice_get engines.old 0) (slice_get engines.new 0) (λ before after. TellsAll (IsLineTold ls line) text.old.items text.new.items (E.detailed before) (E.detailed after) self.old.nos self.new.nos)) }
         ensures follows { (ls : List Stated) → Follows ls self.old → OnOk result (Follows (ls ++ line ∷ []) self.new) }
-        ensures keys { OnOk result (IfBoth (slice_get engines.old 0) (slice_get engines.new 0) (λ before after. Simulates (DemandsOn (body_of self.old.deck) line) self.old.book self.old.kept self.new.book self.new.kept (E.simulated before) (E.simulated after) (E.tape before) (E.runs before) (E.runs after))) }
+        ensures keys { OnOk result (IfBoth (slice_get engines.old 0) (slice_get engines.new 0) (λ before after. Simulates (DemandsOn (body_of self.old.deck) self.old.opened line) self.old.book self.old.kept self.new.book self.new.kept (E.simulated before) (E.simulated after) (E.tape before) (E.runs before) (E.runs after))) }
         ensures years { OnOk result (IfBoth (slice_get engines.old 0) (slice_get engines.new 0) (λ before after. E.detailed after ≤ E.detailed before + 240)) }
         ensures tape { IfBoth (slice_get engines.old 0) (slice_get engines.new 0) (λ before after. E.tape after ≡ E.tape before) }
         ensures others { drop 1 engines.new ≡ drop 1 engines.old }
         ensures plans { OnOk result (self.new.plans ≡ self.old.plans + plan_count (line ∷ [])) }
-        ensures end { line ≡ lines.End → OnOk result ((text.new.items ≡ text.old.items ++ keys_line (length self.old.kept)) × (engines.new ≡ engines.old)) }
+        ensures command { self.new.command ≡ self.old.command }
+        ensures end { line ≡ lines.End → OnOk result ((text.new.items ≡ text.old.items ++ keys_line (length self.old.kept)) × (engines.new ≡ engines.old) × (self.new.nos ≡ self.old.nos)) }
         ensures ended { IfOk result (λ step. (step ≡ steps.Ended) ↔ (line ≡ lines.End)) }
         ensures err_text { OnErr result (text.new.items ≡ text.old.items) }
         ensures err_deck { OnErr result (self.new.deck ≡ self.old.deck) }
@@ -270,9 +415,21 @@ impl Session {
                 self.end(text)?;
                 Ok(Step::Ended)
             }
-            Line::Blank | Line::Check(_) | Line::Cert(_) | Line::Skip | Line::EndCheck => Ok(
-                Step::Go,
-            ),
+            Line::Check(case) => {
+                self.begin(case);
+                Ok(Step::Go)
+            }
+            Line::Cert(line) => {
+                self.keep(line)?;
+                Ok(Step::Go)
+            }
+            Line::EndCheck => {
+                self.check(engines, text)?;
+                // Its reading tells the proof that the rows are those of their keys.
+                let _checks = self.checks();
+                Ok(Step::Go)
+            }
+            Line::Blank | Line::Skip => Ok(Step::Go),
         }
     }
 }

@@ -1,4 +1,5 @@
-//! Worked scripts of a small deck: what is told of each line, and which keys are simulated.
+//! Worked scripts of a small deck: what is told of each line, what is said of certificates, and which keys are
+//! simulated.
 ghost use Rattle.std.specs.Prelude.{◌≡◌, ◌+◌, ◌*◌, ◌≤◌, length, IfOk, IfSome, OnOk, slice_get};
 ghost use Rattle.wasp_session.specs.Steps.{IfBoth};
 
@@ -87,6 +88,22 @@ COME 1 1 97984000
 COME 1 2 22432400
 ";
 
+/// A CHECK of the certificate that a plan of the deck is told as.
+const CHECKED: [&str; 12] = [
+    "CHECK 1",
+    "CASE 1",
+    "CHOSEN 1 2",
+    "EDGE 1 +",
+    "TERMS 1 100000000 86363636 0 8268808 0 8352332",
+    "RISK 1 10000000 10000000 8760",
+    "GEN 1 T1 GAS 867240",
+    "TOTAL 30257504",
+    "COME 1 0 835233227",
+    "COME 1 1 97858603",
+    "COME 1 2 30257504",
+    "ENDCHECK",
+];
+
 /// Goes through some lines.
 fn go_through<E: SimEngine>(
     alloc: Global,
@@ -106,6 +123,9 @@ fn go_through<E: SimEngine>(
     for k in 0..lines.len() {
         if session.plans() == 64 {
             return Err(Fail::new("there are too many plans"));
+        }
+        if session.checks() == 64 {
+            return Err(Fail::new("there are too many checks"));
         }
         let Ok(line) = read_line(alloc, session.mode(), lines[k].as_bytes()) else {
             return Err(Fail::new("a line is malformed"));
@@ -240,5 +260,70 @@ fn a_deck_is_planned(rt: HostRuntime) -> Result<(), Fail> {
     session.plan(&mut engines, &mut text)?;
     assert_eq!(rt; text.as_slice(), NO_RATE_TOLD.as_bytes());
     assert_eq!(rt; (session.plans(), session.keys()), (1, 3));
+    Ok(())
+}
+
+#[test]
+fn a_plan_is_a_certificate_of_itself(rt: HostRuntime) -> Result<(), Fail> {
+    let mut session = Session::start(rt.alloc(), Command::Check);
+    let mut engines = [PlainEngine::new(rt.alloc())];
+    let mut text = Vec::new(rt.alloc());
+    go_through(rt.alloc(), &DECK, &mut session, &mut engines, &mut text)?;
+    go_through(rt.alloc(), &CHECKED, &mut session, &mut engines, &mut text)?;
+    assert_eq!(rt; text.as_slice(), b"CHECK 1 CASE 1 YES\n".as_slice());
+    assert_eq!(rt; (session.checks(), session.keys()), (1, 3));
+    assert!(rt; !session.said_no());
+    Ok(())
+}
+
+#[test]
+fn a_total_too_high_is_no_certificate(rt: HostRuntime) -> Result<(), Fail> {
+    let mut session = Session::start(rt.alloc(), Command::Check);
+    let mut engines = [PlainEngine::new(rt.alloc())];
+    let mut text = Vec::new(rt.alloc());
+    go_through(rt.alloc(), &DECK, &mut session, &mut engines, &mut text)?;
+    let mut lines = CHECKED;
+    lines[7] = "TOTAL 30257505";
+    go_through(rt.alloc(), &lines, &mut session, &mut engines, &mut text)?;
+    assert_eq!(rt; text.as_slice(), b"CHECK 1 CASE 1 NO 5\n".as_slice());
+    assert_eq!(rt; session.keys(), 3);
+    assert!(rt; session.said_no());
+    Ok(())
+}
+
+#[test]
+fn a_case_that_is_not_there_has_no_certificate(rt: HostRuntime) -> Result<(), Fail> {
+    let mut session = Session::start(rt.alloc(), Command::Check);
+    let mut engines = [PlainEngine::new(rt.alloc())];
+    let mut text = Vec::new(rt.alloc());
+    go_through(rt.alloc(), &DECK, &mut session, &mut engines, &mut text)?;
+    let mut lines = CHECKED;
+    lines[0] = "CHECK 2";
+    go_through(rt.alloc(), &lines, &mut session, &mut engines, &mut text)?;
+    assert_eq!(rt; text.as_slice(), b"CHECK 1 CASE 2 NO 0 AT 0\n".as_slice());
+    assert_eq!(rt; session.keys(), 0);
+    assert!(rt; session.said_no());
+    Ok(())
+}
+
+#[test]
+fn keys_of_two_checks_come_once(rt: HostRuntime) -> Result<(), Fail> {
+    let mut session = Session::start(rt.alloc(), Command::Check);
+    let mut engines = [tape_engine(rt.alloc())?];
+    let mut text = Vec::new(rt.alloc());
+    go_through(rt.alloc(), &DECK, &mut session, &mut engines, &mut text)?;
+    go_through(rt.alloc(), &CHECKED, &mut session, &mut engines, &mut text)?;
+    go_through(rt.alloc(), &CHECKED, &mut session, &mut engines, &mut text)?;
+    let step = go_through(rt.alloc(), &["END"], &mut session, &mut engines, &mut text)?;
+    assert_eq!(rt; step, Step::Ended);
+    assert_eq!(rt;
+        text.as_slice(),
+        b"CHECK 1 CASE 1 YES\nCHECK 2 CASE 1 YES\nKEYS 3\n".as_slice()
+    );
+    let Some(runs) = engines[0].runs() else {
+        return Err(Fail::new("no runs are told"));
+    };
+    assert_eq!(rt; runs.len(), 3);
+    assert!(rt; come_once(runs));
     Ok(())
 }

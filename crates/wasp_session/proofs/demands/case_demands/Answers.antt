@@ -1,5 +1,4 @@
-use Rattle.std.proofs.Common.{◌≡◌, ◌∙◌, ap, refl, ◌+◌, ◌++◌, List, ℕ, get_or, length, map, arith}
-use Rattle.std.specs.List.{zip}
+use Rattle.std.proofs.Common.{◌≡◌, ◌∙◌, ap, refl, ◌++◌, List, ℕ, get_or, length, map, arith}
 use Rattle.sim_sweep.specs.declared.demand.Demand.{Demand}
 use Rattle.wasp_session.specs.Steps.{year_demands}
 use Rattle.wasp_session.proofs.DemandLists.{all_years, case_step}

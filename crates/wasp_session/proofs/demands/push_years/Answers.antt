@@ -1,5 +1,5 @@
-use Rattle.std.proofs.Common.{◌≡◌, ◌∙◌, ap, refl, ◌+◌, ◌++◌, List, ℕ, get_or, length, arith}
-use Rattle.std.specs.List.{flat_map, zip}
+use Rattle.std.proofs.Common.{◌≡◌, ◌∙◌, ap, refl, ◌++◌, List, ℕ, get_or, length, arith}
+use Rattle.std.specs.List.{flat_map}
 use Rattle.wasp_session.specs.Steps.{year_demands}
 use Rattle.wasp_session.proofs.DemandLists.{all_years, years_step}
 use Rattle.wasp_session.proofs.demands.push_years.Goals as goal

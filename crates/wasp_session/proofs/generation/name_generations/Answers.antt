@@ -15,5 +15,8 @@ loop-k-preserved c =
     let energy = get_or c.args.energies.now k 0 in
     let same : generation_of d c.generator-id.result.0 c.generator-id.result.1 energy ≡ generation_at d s c.args.config.now c.args.energies.now k =
     ap (λ (id : PlantId). generation_of d id c.generator-id.result.1 energy) c.generator-id.ensures.id ∙ ap (λ (n : ℕ). generation_of d (generator_at s k) n energy) c.generator-id.ensures.standing in
-    generation_step (generation_at d s c.args.config.now c.args.energies.now) k c.loop-k.generations.items c.push_generation.new.generations.items c.loop-k.invariant
-    (c.in_ok-push_generation.ensures ∙ ap (λ (o : Option Generation). c.loop-k.generations.items ++ filter_map (λ (n : ℕ). o) (0 ∷ [])) same)
+    record {
+      value = generation_step (generation_at d s c.args.config.now c.args.energies.now) k c.loop-k.generations.items c.push_generation.new.generations.items c.loop-k.invariant.value
+          (c.in_ok-push_generation.ensures.pushed ∙ ap (λ (o : Option Generation). c.loop-k.generations.items ++ filter_map (λ (n : ℕ). o) (0 ∷ [])) same);
+      printable = c.in_ok-push_generation.ensures.printable c.loop-k.invariant.printable;
+    }

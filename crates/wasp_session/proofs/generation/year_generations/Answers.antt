@@ -20,5 +20,5 @@ returns-clause-value g c =
     if_ok1 c.name_generations.result
     (λ (gs : List Generation). gs ≡ filter_map (generation_at d c.args.system.now c.args.config.now c.deref.result.now) (range_with_len 0 (length c.deref.result.now)))
     (λ (gs : List Generation). gs ≡ generations_of d c.args.year c.args.config.now)
-    c.name_generations.ensures
+    c.name_generations.ensures.value
     (λ gs is. generations_are d c.args.year c.args.config.now c.args.system.now c.deref.result.now gs c.requires.system energies is)

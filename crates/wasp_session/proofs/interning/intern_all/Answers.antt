@@ -1,8 +1,7 @@
-use Rattle.std.proofs.Common.{◌≡◌, ◌<◌, ◌≤◌, ◌+◌, ◌∙◌, ap, [], ◌∷◌, List, drop, length, length-append, arith}
+use Rattle.std.proofs.Common.{◌<◌, ◌+◌, [], ◌∷◌, length, length-append, arith}
 use Rattle.std.proofs.lemmas.Bool.Decides.{nat_tests}
 use Rattle.std.proofs.lemmas.Grind.{common_steps}
 use Rattle.wasp_session.proofs.ListSteps.{IsInterned, grown_more, grown_most, numbers_more, ones_more, rest_drop, rest_first}
-use Rattle.year_system.specs.System.{System}
 use Rattle.wasp_session.proofs.interning.intern_all.Goals as goal
 
 pub loop-systems-preserved : goal.loop-systems-preserved

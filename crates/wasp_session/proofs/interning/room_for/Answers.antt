@@ -1,4 +1,4 @@
-use Rattle.std.proofs.Common.{◌≡◌, ◌≤◌, ⊎_elim, arith}
+use Rattle.std.proofs.Common.{◌≤◌, ⊎_elim, arith}
 use Rattle.wasp_session.proofs.ListSteps.{room_all, room_more}
 use Rattle.year_system.specs.System.{cells, unit_limit}
 use Rattle.wasp_session.proofs.interning.room_for.Goals as goal

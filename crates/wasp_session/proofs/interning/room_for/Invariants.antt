@@ -1,4 +1,4 @@
-use Rattle.std.proofs.Common.{◌≡◌, ◌≤◌, All, take}
+use Rattle.std.proofs.Common.{◌≤◌, All, take}
 use Rattle.wasp_session.specs.Steps.{HasRoom}
 use Rattle.wasp_session.proofs.interning.room_for.Given as goal
 

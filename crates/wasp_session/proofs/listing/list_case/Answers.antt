@@ -1,6 +1,5 @@
-use Rattle.std.proofs.Common.{◌≡◌, ◌+◌, ◌≤◌, length, refl, arith, List, [], ◌∷◌, length-append}
+use Rattle.std.proofs.Common.{◌+◌, length, refl, arith, [], ◌∷◌, length-append}
 use Rattle.std.proofs.lemmas.Option.{slice_get_read}
-use Rattle.deck_check.specs.Readings.{years}
 use Rattle.deck_lines.specs.Deck.{body_of}
 use Rattle.wasp_session.specs.Listings.{IsOf}
 use Rattle.wasp_session.specs.Steps.{IsYearList}

@@ -1,4 +1,4 @@
-use Rattle.std.proofs.Common.{◌≡◌, ◌+◌, [], ◌∷◌, length, length-append, arith}
+use Rattle.std.proofs.Common.{◌+◌, [], ◌∷◌, length-append, arith}
 use Rattle.deck_lines.specs.Deck.{body_of}
 use Rattle.wasp_session.specs.Steps.{IsYearSystem}
 use Rattle.wasp_session.proofs.EachSteps.{each_more}

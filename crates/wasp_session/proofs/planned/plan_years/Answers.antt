@@ -8,6 +8,7 @@ use Rattle.deck_check.specs.Economy.{costs}
 use Rattle.deck_check.specs.Readings.{greatest, years}
 use Rattle.deck_lines.specs.Deck.{body_of}
 use Rattle.plant_data.specs.Configs.{IsAtMost}
+use Rattle.report_text.specs.ReadBack.{IsPrintableYear}
 use Rattle.report_text.specs.Report.{HasWidths}
 use Rattle.sim_engine.specs.Row.{row_of}
 use Rattle.wasp_session.specs.Case.{IsYearOf}
@@ -109,6 +110,7 @@ loop-k-preserved g c =
       last = last_is start ys y c.index-configs-k-in-loop-k.result (next ∙ sym at);
       before = before_more (nothing_built t.economy) configs k c.index-configs-k-in-loop-k.result next;
       wide = All-push (HasWidths (greatest d)) ys y l.invariant.wide c.in_ok-plan_year.ensures.widths;
+      printable = All-push IsPrintableYear ys y l.invariant.printable c.in_ok-plan_year.ensures.printable;
       fits = subst (Fits t.economy) (here ∙ sym next) entry.fits;
       detailed = omega (arith, c.in_ok-plan_year.ensures.detailed, l.invariant.detailed);
       cells_stay = omega (arith, c.plan_year.ensures.cells_stay, l.invariant.cells_stay);

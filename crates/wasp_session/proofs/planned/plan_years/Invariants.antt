@@ -4,6 +4,7 @@ use Rattle.cost_terms.specs.CostData.{Fits}
 use Rattle.deck_check.specs.Economy.{costs}
 use Rattle.deck_check.specs.Readings.{greatest}
 use Rattle.deck_lines.specs.Deck.{body_of}
+use Rattle.report_text.specs.ReadBack.{IsPrintableYear}
 use Rattle.report_text.specs.Report.{HasWidths}
 use Rattle.report_text.specs.declared.data.PlanYear.{PlanYear}
 use Rattle.wasp_session.specs.Case.{AreYearsFrom}
@@ -19,6 +20,7 @@ invariant-loop-k g l =
       last : l.before ≡ last_of (nothing_built (costs (body_of l.typed))) l.years.items;
       before : l.before ≡ before_at (nothing_built l.table.economy) l.configs l.k;
       wide : All (HasWidths (greatest (body_of l.typed))) l.years.items;
+      printable : All IsPrintableYear l.years.items;
       fits : Fits l.table.economy l.before;
       detailed : e.detailed l.engine ≡ e.detailed l.initial.engine + l.k;
       cells_stay : (e.room l.initial.engine).cells ≤ (e.room l.engine).cells;

@@ -1,6 +1,5 @@
 use Rattle.std.proofs.Common.{◌≡◌, ◌∙◌, ◌≤◌, ap, arith}
 use Rattle.cost_terms.specs.Table.{Table}
-use Rattle.cost_terms.specs.declared.prices.CostData.{CostData}
 use Rattle.deck_check.specs.Economy.{costs}
 use Rattle.deck_check.specs.Readings as says
 use Rattle.deck_lines.specs.Deck.{body_of}

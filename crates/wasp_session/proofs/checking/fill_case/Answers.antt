@@ -1,0 +1,58 @@
+use Rattle.std.proofs.Common.{ap, length, arith}
+use Rattle.std.proofs.lemmas.Result.{on_ok_weaker}
+use Rattle.deck_lines.specs.Deck.{body_of}
+use Rattle.wasp_session.proofs.AskSteps.{fit_book}
+use Rattle.wasp_session.proofs.CaseKeys.{case_asked, case_filled, case_simulates, pushed_on_none}
+use Rattle.wasp_session.proofs.FillKeys.{few_rows}
+use Rattle.wasp_session.proofs.PlanKeys.{on_either, on_ok7}
+use Rattle.wasp_session.proofs.checking.fill_case.Goals as goal
+
+pub push_years-requires : goal.push_years-requires
+push_years-requires g c = fit_book (body_of c.args.typed.now) c.args.book.now c.args.ids.now c.args.case c.args.lists.now c.requires.numbers c.requires.lists
+
+pub fill-requires-clause-demands : goal.fill-requires-clause-demands
+fill-requires-clause-demands g c κs outlives =
+    let asked = pushed_on_none c.args.book.now c.args.ids.now c.args.lists.now _ _ _ c.deref.ensures.value c.in_ok-push_years.ensures c.new-demands.ensures.items in
+    (case_asked (body_of c.args.typed.now) c.args.book.now c.args.ids.now c.args.case c.args.lists.now (g.E.SimEngine.room c.args.engine.now) c.deref.result.now c.years-years.result
+    c.years-years.ensures.value c.years-years.ensures.high c.requires.numbers c.requires.lists c.requires.room asked).demands
+
+pub fill-requires-clause-room : goal.fill-requires-clause-room
+fill-requires-clause-room g c κs outlives =
+    let asked = pushed_on_none c.args.book.now c.args.ids.now c.args.lists.now _ _ _ c.deref.ensures.value c.in_ok-push_years.ensures c.new-demands.ensures.items in
+    (case_asked (body_of c.args.typed.now) c.args.book.now c.args.ids.now c.args.case c.args.lists.now (g.E.SimEngine.room c.args.engine.now) c.deref.result.now c.years-years.result
+    c.years-years.ensures.value c.years-years.ensures.high c.requires.numbers c.requires.lists c.requires.room asked).within
+
+pub fill-requires-clause-count : goal.fill-requires-clause-count
+fill-requires-clause-count g c =
+    let asked = pushed_on_none c.args.book.now c.args.ids.now c.args.lists.now _ _ _ c.deref.ensures.value c.in_ok-push_years.ensures c.new-demands.ensures.items in
+    let are = case_asked (body_of c.args.typed.now) c.args.book.now c.args.ids.now c.args.case c.args.lists.now (g.E.SimEngine.room c.args.engine.now) c.deref.result.now c.years-years.result
+    c.years-years.ensures.value c.years-years.ensures.high c.requires.numbers c.requires.lists c.requires.room asked in
+    omega (arith, c.requires.count, are.few)
+
+pub returns-clause-filled : goal.returns-clause-filled
+returns-clause-filled g c =
+    let asked = pushed_on_none c.args.book.now c.args.ids.now c.args.lists.now _ _ _ c.deref.ensures.value c.in_ok-push_years.ensures c.new-demands.ensures.items in
+    on_ok_weaker c.fill.result
+    (λ filled. case_filled c.args.book.now c.args.ids.now c.args.lists.now c.deref.result.now c.fill.new.kept asked filled)
+    c.fill.ensures.filled
+
+pub returns-clause-keys : goal.returns-clause-keys
+returns-clause-keys g c =
+    let e = g.E.SimEngine in
+    let f = c.fill.ensures in
+    let asked = pushed_on_none c.args.book.now c.args.ids.now c.args.lists.now _ _ _ c.deref.ensures.value c.in_ok-push_years.ensures c.new-demands.ensures.items in
+    on_ok7 c.fill.result _ _ _ _ _ _ _ _ f.filled f.stays f.only f.many f.simulated f.told f.only_told
+    (λ filled stays only many counts told only_told.
+    case_simulates c.new_codes_come_once.ensures (body_of c.args.typed.now) c.args.book.now c.args.ids.now c.args.case c.args.lists.now c.deref.result.now c.args.kept.now c.fill.new.kept
+    (e.simulated c.args.engine.now) (e.simulated c.fill.new.engine) (e.tape c.args.engine.now) (e.runs c.args.engine.now) (e.runs c.fill.new.engine)
+    c.requires.low c.requires.high c.requires.ones c.len-systems.ensures.valid c.requires.numbers c.requires.lists asked
+    (record { filled = filled; stays = stays; only = only; many = many; counts = counts; told = told; only_told = only_told }))
+
+pub returns-clause-few : goal.returns-clause-few
+returns-clause-few g c =
+    let asked = pushed_on_none c.args.book.now c.args.ids.now c.args.lists.now _ _ _ c.deref.ensures.value c.in_ok-push_years.ensures c.new-demands.ensures.items in
+    let are = case_asked (body_of c.args.typed.now) c.args.book.now c.args.ids.now c.args.case c.args.lists.now (g.E.SimEngine.room c.args.engine.now) c.deref.result.now c.years-years.result
+    c.years-years.ensures.value c.years-years.ensures.high c.requires.numbers c.requires.lists c.requires.room asked in
+    on_either c.fill.result _ _ _ c.fill.ensures.many c.fill.ensures.err_kept
+    (λ many. few_rows c.args.kept.now c.deref.result.now (length c.fill.new.kept) are.few many)
+    (λ same. let n = ap length same in omega (arith, n))

@@ -1,0 +1,254 @@
+//! What an ENDCHECK line does.
+ghost use Rattle.std.specs.Prelude.{◌≡◌, ◌+◌, ◌-◌, ◌^◌, ◌<◌, ◌≤◌, All, IfOk, OnOk, length};
+ghost use Rattle.cost_terms.specs.Table.{Table};
+ghost use Rattle.deck_check.specs.Readings as says;
+ghost use Rattle.deck_lines.specs.Deck.{body_of};
+ghost use Rattle.plan_certificate.specs.Certificate.{IsVerdict};
+ghost use Rattle.plan_certificate.specs.Reading.{IsSaidBy};
+ghost use Rattle.sim_sweep.specs.Demands.{IsFilled};
+ghost use Rattle.sim_sweep.specs.Kept.{AreDue};
+ghost use Rattle.wasp_session.specs.Case.{IsTableOf};
+ghost use Rattle.wasp_session.specs.Checks.{IsJudged};
+ghost use Rattle.wasp_session.specs.Keys.{DemandsChecked, IsCaseKeyOf};
+ghost use Rattle.wasp_session.specs.State.{AreOnes};
+ghost use Rattle.wasp_session.specs.Steps as spec;
+ghost use Rattle.wasp_session.specs.Steps.{AreSystems, AreYearLists, HasGrown, HasYearRoom, HasYears, Simulates};
+
+use crate::demands::push_years;
+use crate::interning::{intern_all, room_for};
+use crate::listing::{ListError, list_case, systems_of};
+use crate::opened::OpenCheck;
+use crate::settling::settle_case;
+use deck_check::{CheckError, TypedDeck, check, faults_are_met};
+use deck_lines::Deck;
+use plan_certificate::{
+    CertError, Certificate, Verdict, judge, read_certificate, readings_are_one,
+};
+use plant_data::{Config, Listed};
+use report_text::{Judged, Refusal};
+use sim_engine::SimEngine;
+use sim_sweep::{Kept, due_rows_stand, fill, new_codes_come_once};
+use std::alloc::Global;
+use tunnel_configs::listings_are_one;
+use wasp_fixed::OutOfMemory;
+use year_system::{Book, YearSystem};
+
+/// Settles a case, and judges a certificate against its table.
+fn judge_settled(
+    alloc: Global,
+    typed: &TypedDeck,
+    book: &Book,
+    ids: &[u64],
+    kept: &Kept,
+    case: u64,
+    lists: &[Listed<Config>],
+    certificate: &Certificate,
+) -> Result<Verdict, OutOfMemory>
+    requires low { 1 ≤ case }
+    requires high { case ≤ says.cases (body_of typed.now) }
+    requires numbers { HasYears (body_of typed.now) book.now ids.now }
+    requires lists { AreYearLists (body_of typed.now) case lists.now }
+    requires due { AreDue book.now kept.now }
+    requires filled { All (All (IsFilled book.now kept.now)) (spec.case_demands book.now ids.now lists.now) }
+    requires years { certificate.now.years ≡ says.years (body_of typed.now) }
+    requires width { certificate.now.width ≡ length (says.greatest (body_of typed.now)) }
+    ensures { IfOk result (λ verdict. (table : Table) × IsTableOf (body_of typed.now) case table × IsVerdict table certificate.now verdict) }
+{
+    let done = settle_case(alloc, typed, book, ids, kept, case, lists)?;
+    Ok(judge(done.table(), certificate))
+}
+
+/// Keeps the row of each key that a case demands. The ones that are not kept are simulated, each once.
+fn fill_case<E: SimEngine>(
+    alloc: Global,
+    typed: &TypedDeck,
+    book: &Book,
+    ids: &[u64],
+    case: u64,
+    lists: &[Listed<Config>],
+    kept: &mut Kept,
+    engine: &mut E,
+) -> Result<(), OutOfMemory>
+    requires low { 1 ≤ case }
+    requires high { case ≤ says.cases (body_of typed.now) }
+    requires due { AreDue book.now kept.old }
+    requires ones { AreOnes book.now }
+    requires numbers { HasYears (body_of typed.now) book.now ids.now }
+    requires lists { AreYearLists (body_of typed.now) case lists.now }
+    requires room { HasYearRoom (body_of typed.now) (E.room engine.old) }
+    requires count { E.simulated engine.old + 120000 < 2 ^ 64 - 1 }
+    ensures filled { OnOk result (All (All (IsFilled book.now kept.new)) (spec.case_demands book.now ids.now lists.now)) }
+    ensures keys { OnOk result (Simulates (IsCaseKeyOf (body_of typed.now) case) book.now kept.old book.now kept.new (E.simulated engine.old) (E.simulated engine.new) (E.tape engine.old) (E.runs engine.old) (E.runs engine.new)) }
+    ensures due { AreDue book.now kept.new }
+    ensures few { length kept.new ≤ length kept.old + 120000 }
+    ensures detailed { E.detailed engine.new ≡ E.detailed engine.old }
+    ensures tape { E.tape engine.new ≡ E.tape engine.old }
+    ensures cells_stay { (E.room engine.old).cells ≤ (E.room engine.new).cells }
+    ensures units_stay { (E.room engine.old).units ≤ (E.room engine.new).units }
+{
+    // Their readings tell the proof that there are at most 30 years, and that each system is one.
+    let _years = typed.years();
+    let _systems = book.len();
+    new_codes_come_once();
+    let mut demands = Vec::new(alloc);
+    push_years(book, ids, lists, &mut demands)?;
+    fill(kept, engine, book, &demands)
+}
+
+/// Keeps the rows of a case, and judges a certificate against its table.
+fn judge_case<E: SimEngine>(
+    alloc: Global,
+    typed: &TypedDeck,
+    case: u64,
+    certificate: &Certificate,
+    systems: Vec<YearSystem>,
+    lists: &[Listed<Config>],
+    book: &mut Book,
+    kept: &mut Kept,
+    engine: &mut E,
+) -> Result<Verdict, OutOfMemory>
+    requires low { 1 ≤ case }
+    requires high { case ≤ says.cases (body_of typed.now) }
+    requires due { AreDue book.old kept.old }
+    requires ones { AreOnes book.old }
+    requires systems { AreSystems (body_of typed.now) systems.items }
+    requires lists { AreYearLists (body_of typed.now) case lists.now }
+    requires years { certificate.now.years ≡ says.years (body_of typed.now) }
+    requires width { certificate.now.width ≡ length (says.greatest (body_of typed.now)) }
+    requires systems_left { length book.old + 30 ≤ 2048 }
+    requires simulated_left { E.simulated engine.old + 120000 < 2 ^ 64 - 1 }
+    ensures judged { IfOk result (λ verdict. (table : Table) × IsTableOf (body_of typed.now) case table × IsVerdict table certificate.now verdict) }
+    ensures keys { OnOk result (Simulates (IsCaseKeyOf (body_of typed.now) case) book.old kept.old book.new kept.new (E.simulated engine.old) (E.simulated engine.new) (E.tape engine.old) (E.runs engine.old) (E.runs engine.new)) }
+    ensures due { AreDue book.new kept.new }
+    ensures ones { AreOnes book.new }
+    ensures grown { HasGrown book.old book.new 30 }
+    ensures few { length kept.new ≤ length kept.old + 120000 }
+    ensures detailed { E.detailed engine.new ≡ E.detailed engine.old }
+    ensures tape { E.tape engine.new ≡ E.tape engine.old }
+{
+    // Its reading tells the proof that there are at most 30 years.
+    let _years = typed.years();
+    due_rows_stand();
+    let (cells, units) = room_for(&systems);
+    let mut ids = Vec::new(alloc);
+    intern_all(book, systems, &mut ids)?;
+    // Its reading tells the proof that each system is one.
+    let _systems = book.len();
+    engine.ready(cells, units)?;
+    fill_case(alloc, typed, book, &ids, case, lists, kept, engine)?;
+    judge_settled(alloc, typed, book, &ids, kept, case, lists, certificate)
+}
+
+/// Judges a certificate that is in its form, or says the first year of its case over a limit.
+fn judge_read<E: SimEngine>(
+    alloc: Global,
+    typed: &TypedDeck,
+    opened: &OpenCheck,
+    certificate: &Certificate,
+    book: &mut Book,
+    kept: &mut Kept,
+    engine: &mut E,
+) -> Result<Judged, OutOfMemory>
+    requires case { opened.now.case ≤ says.cases (body_of typed.now) }
+    requires said { IsSaidBy (says.years (body_of typed.now)) (length (says.greatest (body_of typed.now))) opened.now.certificate certificate.now }
+    requires due { AreDue book.old kept.old }
+    requires ones { AreOnes book.old }
+    requires systems_left { length book.old + 30 ≤ 2048 }
+    requires simulated_left { E.simulated engine.old + 120000 < 2 ^ 64 - 1 }
+    ensures judged { IfOk result (λ judged. IsJudged (body_of typed.now) opened.now judged) }
+    ensures keys { OnOk result (Simulates (DemandsChecked (body_of typed.now) opened.now) book.old kept.old book.new kept.new (E.simulated engine.old) (E.simulated engine.new) (E.tape engine.old) (E.runs engine.old) (E.runs engine.new)) }
+    ensures due { AreDue book.new kept.new }
+    ensures ones { AreOnes book.new }
+    ensures grown { HasGrown book.old book.new 30 }
+    ensures few { length kept.new ≤ length kept.old + 120000 }
+    ensures detailed { E.detailed engine.new ≡ E.detailed engine.old }
+    ensures tape { E.tape engine.new ≡ E.tape engine.old }
+{
+    // Its reading tells the proof that the deck meets no row of the fault table.
+    let _years = typed.years();
+    listings_are_one();
+    readings_are_one();
+    let case = opened.case();
+    let systems = systems_of(alloc, typed)?;
+    match list_case(alloc, typed, &systems, case) {
+        Ok(lists) => {
+            let verdict = judge_case(
+                alloc,
+                typed,
+                case,
+                certificate,
+                systems,
+                lists.as_slice(),
+                book,
+                kept,
+                engine,
+            )?;
+            Ok(Judged::Said(verdict))
+        }
+        Err(ListError::OutOfMemory) => Err(OutOfMemory),
+        Err(ListError::Over(refusal)) => Ok(Judged::Refused(refusal)),
+    }
+}
+
+/// Judges a certificate on a deck without a fault, or says where its form has one.
+fn judge_typed<E: SimEngine>(
+    alloc: Global,
+    typed: &TypedDeck,
+    opened: &OpenCheck,
+    book: &mut Book,
+    kept: &mut Kept,
+    engine: &mut E,
+) -> Result<Judged, OutOfMemory>
+    requires due { AreDue book.old kept.old }
+    requires ones { AreOnes book.old }
+    requires systems_left { length book.old + 30 ≤ 2048 }
+    requires simulated_left { E.simulated engine.old + 120000 < 2 ^ 64 - 1 }
+    ensures judged { IfOk result (λ judged. IsJudged (body_of typed.now) opened.now judged) }
+    ensures keys { OnOk result (Simulates (DemandsChecked (body_of typed.now) opened.now) book.old kept.old book.new kept.new (E.simulated engine.old) (E.simulated engine.new) (E.tape engine.old) (E.runs engine.old) (E.runs engine.new)) }
+    ensures due { AreDue book.new kept.new }
+    ensures ones { AreOnes book.new }
+    ensures grown { HasGrown book.old book.new 30 }
+    ensures few { length kept.new ≤ length kept.old + 120000 }
+    ensures detailed { E.detailed engine.new ≡ E.detailed engine.old }
+    ensures tape { E.tape engine.new ≡ E.tape engine.old }
+{
+    if typed.cases() < opened.case() {
+        return Ok(Judged::Form(0));
+    }
+    match read_certificate(alloc, opened.lines(), typed.years(), typed.width()) {
+        Ok(certificate) => judge_read(alloc, typed, opened, &certificate, book, kept, engine),
+        Err(CertError::OutOfMemory) => Err(OutOfMemory),
+        Err(CertError::Form(line)) => Ok(Judged::Form(line)),
+    }
+}
+
+/// What is said of the certificate of an open CHECK on a deck. The rows of the keys of its case are kept, where it is
+/// neither refused nor failed in its form.
+pub(crate) fn judge_deck<E: SimEngine>(
+    alloc: Global,
+    deck: &Deck,
+    opened: &OpenCheck,
+    book: &mut Book,
+    kept: &mut Kept,
+    engine: &mut E,
+) -> Result<Judged, OutOfMemory>
+    requires due { AreDue book.old kept.old }
+    requires ones { AreOnes book.old }
+    requires systems_left { length book.old + 30 ≤ 2048 }
+    requires simulated_left { E.simulated engine.old + 120000 < 2 ^ 64 - 1 }
+    ensures judged { IfOk result (λ judged. IsJudged (body_of deck.now) opened.now judged) }
+    ensures keys { OnOk result (Simulates (DemandsChecked (body_of deck.now) opened.now) book.old kept.old book.new kept.new (E.simulated engine.old) (E.simulated engine.new) (E.tape engine.old) (E.runs engine.old) (E.runs engine.new)) }
+    ensures due { AreDue book.new kept.new }
+    ensures ones { AreOnes book.new }
+    ensures grown { HasGrown book.old book.new 30 }
+    ensures few { length kept.new ≤ length kept.old + 120000 }
+    ensures detailed { E.detailed engine.new ≡ E.detailed engine.old }
+    ensures tape { E.tape engine.new ≡ E.tape engine.old }
+{
+    faults_are_met();
+    match check(deck) {
+        Ok(typed) => judge_typed(alloc, &typed, opened, book, kept, engine),
+        Err(CheckError::OutOfMemory) => Err(OutOfMemory),
+        Err(CheckError::Fault(fault)) => Ok(Judged::Refused(Refusal::Deck(fault))),
+    }
+}
