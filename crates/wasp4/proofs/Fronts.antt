@@ -2,15 +2,16 @@
 use Rattle.std.proofs.Common.{◌≡◌, ◌∙◌, sym, ℕ, inl, inr, List, ◌++◌}
 use Rattle.deck_lines.specs.declared.line.Line.{Line}
 use Rattle.wasp_session.specs.State.{State}
+use Rattle.wasp_session.specs.declared.command.Command.{Command}
 use Rattle.wasp4.specs.Out.{IsAnswered, IsFront}
 use Rattle.wasp4.specs.Script.{Script, script_behind}
 use Rattle.wasp4.specs.Work.{HasRun, Work}
 use Rattle.wasp4.proofs.Scripts.{keeps_lines}
 
 -- of lines that were read
-pub told_front : (read : List Line) (s : State) (said done rest : List ℕ) (w v : Work) (more : List (List ℕ)) → HasRun read s said w v → said ≡ done ++ rest → IsFront (script_behind read more) done
-told_front read s said done rest w v more r e =
-    let behind = keeps_lines more read in
+pub told_front : (command : Command) (read : List Line) (s : State) (said done rest : List ℕ) (w v : Work) (more : List (List ℕ)) → HasRun command read s said w v → said ≡ done ++ rest → IsFront (script_behind command read more) done
+told_front command read s said done rest w v more r e =
+    let behind = keeps_lines command more read in
     inl (record {
       read = read;
       rest = behind.0;

@@ -7,6 +7,7 @@ use Rattle.deck_lines.specs.declared.line.Line.{Line}
 use Rattle.line_reader.specs.Lines.{lines_of, unlines}
 use Rattle.line_reader.specs.Reading.{ahead}
 use Rattle.wasp_session.specs.State.{Follows, State}
+use Rattle.wasp_session.specs.declared.command.Command.{Command}
 use Rattle.wasp4.specs.declared.status.Ending.{Ending}
 use Rattle.wasp4.specs.declared.status.Ending.TheVariants as endings
 use Rattle.wasp4.specs.declared.status.Status.{Status}
@@ -33,8 +34,8 @@ of_told (Some b) P Q h k = h (lines_of b) k
 
 -- ---- on
 
-starts : (a w : Option (List ℕ)) (s : State) (start : Work) → Follows [] s → Advances a a w w s start start 0
-starts a w s start follows = record {
+starts : (command : Command) (a w : Option (List ℕ)) (s : State) (start : Work) → s.command ≡ command → s.nos ≡ 0 → Follows [] s → Advances command a a w w s start start 0
+starts command a w s start same nos follows = record {
   texts = [];
   whole = tt;
   taken = Consumes-none a;
@@ -43,26 +44,26 @@ starts a w s start follows = record {
   leads = λ more. refl;
   said = [];
   wrote = Appends-none w;
-  run = run_none s start follows;
+  run = run_none command s start same nos follows;
 }
 
 -- before the first line
-pub started : (a w : Option (List ℕ)) (kept : List ℕ) (s : State) (start : Work) → kept ≡ [] → Follows [] s → Advances a (ahead kept a) w w s start start 0
-started a w kept s start none follows =
-    subst (λ (b : Option (List ℕ)). Advances a b w w s start start 0) (sym (ahead_none a kept none)) (starts a w s start follows)
+pub started : (command : Command) (a w : Option (List ℕ)) (kept : List ℕ) (s : State) (start : Work) → kept ≡ [] → s.command ≡ command → s.nos ≡ 0 → Follows [] s → Advances command a (ahead kept a) w w s start start 0
+started command a w kept s start none same nos follows =
+    subst (λ (b : Option (List ℕ)). Advances command a b w w s start start 0) (sym (ahead_none a kept none)) (starts command a w s start same nos follows)
 
 -- one turn more
-pub advanced : (a b c w v z : Option (List ℕ)) (s t : State) (start u x : Work) (n : ℕ) (text : List ℕ) (turn : Option Turn) (so_far : Advances a b w v s start u n)
-    → TurnFrom b c so_far.read t (so_far.said ++ text) start x turn → PutAs v z text turn None → Advances a c w z t start x (n + 1)
-advanced a b c w v z s t start u x n text turn so_far turned put =
-    let line : TakesLine b c so_far.read t (so_far.said ++ text) start x = subst (TurnFrom b c so_far.read t (so_far.said ++ text) start x) put.0 turned in
+pub advanced : (command : Command) (a b c w v z : Option (List ℕ)) (s t : State) (start u x : Work) (n : ℕ) (text : List ℕ) (turn : Option Turn) (so_far : Advances command a b w v s start u n)
+    → TurnFrom command b c so_far.read t (so_far.said ++ text) start x turn → PutAs v z text turn None → Advances command a c w z t start x (n + 1)
+advanced command a b c w v z s t start u x n text turn so_far turned put =
+    let line : TakesLine command b c so_far.read t (so_far.said ++ text) start x = subst (TurnFrom command b c so_far.read t (so_far.said ++ text) start x) put.0 turned in
     record {
       texts = so_far.texts ++ line.bytes ∷ [];
       whole = all_push so_far.texts line.bytes so_far.whole line.whole;
       taken = subst (Consumes a c) (unlines-push so_far.texts line.bytes) (Consumes-then a b c (unlines so_far.texts) (line.bytes ++ 10 ∷ []) so_far.taken line.taken);
       read = so_far.read ++ line.line ∷ [];
       count = length-append so_far.read (line.line ∷ []) ∙ ap (λ (m : ℕ). m + 1) so_far.count;
-      leads = λ more. ap (script_behind []) (append_assoc so_far.texts (line.bytes ∷ []) more) ∙ so_far.leads (line.bytes ∷ more) ∙ line.leads more;
+      leads = λ more. ap (script_behind command []) (append_assoc so_far.texts (line.bytes ∷ []) more) ∙ so_far.leads (line.bytes ∷ more) ∙ line.leads more;
       said = so_far.said ++ text;
       wrote = Appends-then w v z so_far.said text so_far.wrote put.1;
       run = line.run;
@@ -71,50 +72,50 @@ advanced a b c w v z s t start u x n text turn so_far turned put =
 -- ---- the ways out
 
 -- nothing more was written
-pub stops_here : (a b w v : Option (List ℕ)) (s : State) (start u : Work) (n : ℕ) → Advances a b w v s start u n → StopsWithin a w v
-stops_here a b w v s start u n so_far =
-    let Front : List (List ℕ) → Type 0 = λ ls. IsFront (script_behind [] ls) so_far.said in (
+pub stops_here : (command : Command) (a b w v : Option (List ℕ)) (s : State) (start u : Work) (n : ℕ) → Advances command a b w v s start u n → StopsWithin command a w v
+stops_here command a b w v s start u n so_far =
+    let Front : List (List ℕ) → Type 0 = λ ls. IsFront (script_behind command [] ls) so_far.said in (
       so_far.said,
       so_far.wrote,
       behind_lines a b so_far.texts Front so_far.whole so_far.taken
           (of_all b (λ ls. Front (so_far.texts ++ ls)) (λ more.
           subst (λ (x : Script). IsFront x so_far.said) (sym (so_far.leads more))
-          (told_front so_far.read s so_far.said so_far.said [] start u more so_far.run (sym (append-nil so_far.said))))),
+          (told_front command so_far.read s so_far.said so_far.said [] start u more so_far.run (sym (append-nil so_far.said))))),
     )
 
 -- a front of a turn's text was written
-abbrev FrontAt : List (List ℕ) → List ℕ → List (List ℕ) → Type 0
-FrontAt texts said ls = IsFront (script_behind [] (texts ++ ls)) said
+abbrev FrontAt : Command → List (List ℕ) → List ℕ → List (List ℕ) → Type 0
+FrontAt command texts said ls = IsFront (script_behind command [] (texts ++ ls)) said
 
-front_of_turn : (b c : Option (List ℕ)) (t : State) (start x : Work) (texts : List (List ℕ)) (read : List Line) (said done rest : List ℕ) (turn : Option Turn)
-    → ((more : List (List ℕ)) → script_behind [] (texts ++ more) ≡ script_behind read more) → TurnFrom b c read t said start x turn → said ≡ done ++ rest
-    → IfSome b (λ text. FrontAt texts done (lines_of text))
-front_of_turn b c t start x texts read said done rest None leads turned e =
-    of_all b (FrontAt texts done) (λ more. subst (λ (z : Script). IsFront z done) (sym (leads more)) (told_front read t said done rest start x more turned.run e))
-front_of_turn b c t start x texts read said done rest (Some turns.Goes) leads turned e =
-    behind_line b c turned.bytes (FrontAt texts done) turned.whole turned.taken (λ more.
-    subst (λ (z : Script). IsFront z done) (sym (leads (turned.bytes ∷ more) ∙ turned.leads more)) (told_front (read ++ turned.line ∷ []) t said done rest start x more turned.run e))
-front_of_turn b c t start x texts read said done rest (Some (turns.Over ending)) leads turned e =
-    of_told b (λ ls. script_behind read ls ≡ turned.script) (FrontAt texts done)
+front_of_turn : (command : Command) (b c : Option (List ℕ)) (t : State) (start x : Work) (texts : List (List ℕ)) (read : List Line) (said done rest : List ℕ) (turn : Option Turn)
+    → ((more : List (List ℕ)) → script_behind command [] (texts ++ more) ≡ script_behind command read more) → TurnFrom command b c read t said start x turn → said ≡ done ++ rest
+    → IfSome b (λ text. FrontAt command texts done (lines_of text))
+front_of_turn command b c t start x texts read said done rest None leads turned e =
+    of_all b (FrontAt command texts done) (λ more. subst (λ (z : Script). IsFront z done) (sym (leads more)) (told_front command read t said done rest start x more turned.run e))
+front_of_turn command b c t start x texts read said done rest (Some turns.Goes) leads turned e =
+    behind_line b c turned.bytes (FrontAt command texts done) turned.whole turned.taken (λ more.
+    subst (λ (z : Script). IsFront z done) (sym (leads (turned.bytes ∷ more) ∙ turned.leads more)) (told_front command (read ++ turned.line ∷ []) t said done rest start x more turned.run e))
+front_of_turn command b c t start x texts read said done rest (Some (turns.Over ending)) leads turned e =
+    of_told b (λ ls. script_behind command read ls ≡ turned.script) (FrontAt command texts done)
     (λ more is. subst (λ (z : Script). IsFront z done) (sym (leads more ∙ is)) (whole_front turned.script said done rest start x turned.answered e)) turned.is
 
-pub stops_in_turn : (a b c w v z : Option (List ℕ)) (s t : State) (start u x : Work) (n : ℕ) (text : List ℕ) (turn : Option Turn) (so_far : Advances a b w v s start u n)
-    → TurnFrom b c so_far.read t (so_far.said ++ text) start x turn
-    → ((done : List ℕ) × (rest : List ℕ) × Appends v z done × (text ≡ done ++ rest)) → StopsWithin a w z
-stops_in_turn a b c w v z s t start u x n text turn so_far turned put =
+pub stops_in_turn : (command : Command) (a b c w v z : Option (List ℕ)) (s t : State) (start u x : Work) (n : ℕ) (text : List ℕ) (turn : Option Turn) (so_far : Advances command a b w v s start u n)
+    → TurnFrom command b c so_far.read t (so_far.said ++ text) start x turn
+    → ((done : List ℕ) × (rest : List ℕ) × Appends v z done × (text ≡ done ++ rest)) → StopsWithin command a w z
+stops_in_turn command a b c w v z s t start u x n text turn so_far turned put =
     let done = put.0 in
     let rest = put.1 in
     let parts : so_far.said ++ text ≡ (so_far.said ++ done) ++ rest = ap (λ (y : List ℕ). so_far.said ++ y) put.3 ∙ sym (append_assoc so_far.said done rest) in (
       so_far.said ++ done,
       Appends-then w v z so_far.said done so_far.wrote put.2,
-      behind_lines a b so_far.texts (λ ls. IsFront (script_behind [] ls) (so_far.said ++ done)) so_far.whole so_far.taken
-          (front_of_turn b c t start x so_far.texts so_far.read (so_far.said ++ text) (so_far.said ++ done) rest turn so_far.leads turned parts),
+      behind_lines a b so_far.texts (λ ls. IsFront (script_behind command [] ls) (so_far.said ++ done)) so_far.whole so_far.taken
+          (front_of_turn command b c t start x so_far.texts so_far.read (so_far.said ++ text) (so_far.said ++ done) rest turn so_far.leads turned parts),
     )
 
 -- the source failed
-pub stops_between : (a b left w v z : Option (List ℕ)) (kept : List ℕ) (s t : State) (start u x : Work) (n : ℕ) (text : List ℕ) (so_far : Advances a b w v s start u n)
-    → TakesPart b (ahead kept left) so_far.read t (so_far.said ++ text) start x → kept ≡ [] → Appends v z text → StopsBetween a left w z start x
-stops_between a b left w v z kept s t start u x n text so_far turn none put = record {
+pub stops_between : (command : Command) (a b left w v z : Option (List ℕ)) (kept : List ℕ) (s t : State) (start u x : Work) (n : ℕ) (text : List ℕ) (so_far : Advances command a b w v s start u n)
+    → TakesPart command b (ahead kept left) so_far.read t (so_far.said ++ text) start x → kept ≡ [] → Appends v z text → StopsBetween command a left w z start x
+stops_between command a b left w v z kept s t start u x n text so_far turn none put = record {
   texts = so_far.texts;
   whole = so_far.whole;
   part = turn.part;
@@ -133,33 +134,34 @@ stops_between a b left w v z kept s t start u x n text so_far turn none put = re
 }
 
 -- the script is over
-pub closes_here : (a b w v z : Option (List ℕ)) (s : State) (start u x : Work) (n : ℕ) (text : List ℕ) (ending : Ending) (so_far : Advances a b w v s start u n)
-    → EndsIn b so_far.read (so_far.said ++ text) start x ending → Appends v z text → Closes a w z start x ending
-closes_here a b w v z s start u x n text ending so_far turn put = record {
+pub closes_here : (command : Command) (a b w v z : Option (List ℕ)) (s : State) (start u x : Work) (n : ℕ) (text : List ℕ) (ending : Ending) (so_far : Advances command a b w v s start u n)
+    → EndsIn command b so_far.read (so_far.said ++ text) start x ending → Appends v z text → Closes command a w z start x ending
+closes_here command a b w v z s start u x n text ending so_far turn put = record {
   script = turn.script;
-  is = behind_lines a b so_far.texts (λ ls. script_behind [] ls ≡ turn.script) so_far.whole so_far.taken
-      (of_told b (λ ls. script_behind so_far.read ls ≡ turn.script) (λ ls. script_behind [] (so_far.texts ++ ls) ≡ turn.script) (λ more is. so_far.leads more ∙ is) turn.is);
-  ends = turn.ends;
+  is = behind_lines a b so_far.texts (λ ls. script_behind command [] ls ≡ turn.script) so_far.whole so_far.taken
+      (of_told b (λ ls. script_behind command so_far.read ls ≡ turn.script) (λ ls. script_behind command [] (so_far.texts ++ ls) ≡ turn.script) (λ more is. so_far.leads more ∙ is) turn.is);
   said = so_far.said ++ text;
   wrote = Appends-then w v z so_far.said text so_far.wrote put;
   answered = turn.answered;
+  ends = turn.ends;
 }
 
 -- how a turn whose text was put ends the run
-ended_put : (a b left w v z : Option (List ℕ)) (kept : List ℕ) (s t : State) (start u x : Work) (n : ℕ) (text : List ℕ) (turn : Option Turn) (status : Status) (so_far : Advances a b w v s start u n)
-    → TurnFrom b (ahead kept left) so_far.read t (so_far.said ++ text) start x turn → (turn ≡ None → kept ≡ []) → PutAs v z text turn (Some status) → Answers a left w z start x status
-ended_put a b left w v z kept s t start u x n text turn statuses.Done so_far turned none put =
-    closes_here a b w v z s start u x n text endings.Done so_far (subst (TurnFrom b (ahead kept left) so_far.read t (so_far.said ++ text) start x) put.0 turned) put.1
-ended_put a b left w v z kept s t start u x n text turn statuses.Malformed so_far turned none put =
-    closes_here a b w v z s start u x n text endings.Malformed so_far (subst (TurnFrom b (ahead kept left) so_far.read t (so_far.said ++ text) start x) put.0 turned) put.1
-ended_put a b left w v z kept s t start u x n text turn statuses.ReadFault so_far turned none put =
-    stops_between a b left w v z kept s t start u x n text so_far (subst (TurnFrom b (ahead kept left) so_far.read t (so_far.said ++ text) start x) put.0 turned) (none put.0) put.1
-ended_put a b left w v z kept s t start u x n text turn statuses.WriteFault so_far turned none put = stops_in_turn a b (ahead kept left) w v z s t start u x n text turn so_far turned put
-ended_put a b left w v z kept s t start u x n text turn statuses.OutOfMemory so_far turned none put = absurd put
-ended_put a b left w v z kept s t start u x n text turn statuses.BadWords so_far turned none put = absurd put
-ended_put a b left w v z kept s t start u x n text turn statuses.CheckNo so_far turned none put = absurd put
+ended_put : (command : Command) (a b left w v z : Option (List ℕ)) (kept : List ℕ) (s t : State) (start u x : Work) (n : ℕ) (text : List ℕ) (turn : Option Turn) (status : Status) (so_far : Advances command a b w v s start u n)
+    → TurnFrom command b (ahead kept left) so_far.read t (so_far.said ++ text) start x turn → (turn ≡ None → kept ≡ []) → PutAs v z text turn (Some status) → Answers command a left w z start x status
+ended_put command a b left w v z kept s t start u x n text turn statuses.Done so_far turned none put =
+    closes_here command a b w v z s start u x n text endings.Done so_far (subst (TurnFrom command b (ahead kept left) so_far.read t (so_far.said ++ text) start x) put.0 turned) put.1
+ended_put command a b left w v z kept s t start u x n text turn statuses.CheckNo so_far turned none put =
+    closes_here command a b w v z s start u x n text endings.CheckNo so_far (subst (TurnFrom command b (ahead kept left) so_far.read t (so_far.said ++ text) start x) put.0 turned) put.1
+ended_put command a b left w v z kept s t start u x n text turn statuses.Malformed so_far turned none put =
+    closes_here command a b w v z s start u x n text endings.Malformed so_far (subst (TurnFrom command b (ahead kept left) so_far.read t (so_far.said ++ text) start x) put.0 turned) put.1
+ended_put command a b left w v z kept s t start u x n text turn statuses.ReadFault so_far turned none put =
+    stops_between command a b left w v z kept s t start u x n text so_far (subst (TurnFrom command b (ahead kept left) so_far.read t (so_far.said ++ text) start x) put.0 turned) (none put.0) put.1
+ended_put command a b left w v z kept s t start u x n text turn statuses.WriteFault so_far turned none put = stops_in_turn command a b (ahead kept left) w v z s t start u x n text turn so_far turned put
+ended_put command a b left w v z kept s t start u x n text turn statuses.OutOfMemory so_far turned none put = absurd put
+ended_put command a b left w v z kept s t start u x n text turn statuses.BadWords so_far turned none put = absurd put
 
-pub answered : (a b left w v z : Option (List ℕ)) (kept : List ℕ) (s t : State) (start u x : Work) (n : ℕ) (text piece : List ℕ) (turn : Option Turn) (status : Status) (so_far : Advances a b w v s start u n)
-    → TurnFrom b (ahead kept left) so_far.read t (so_far.said ++ text) start x turn → (turn ≡ None → kept ≡ []) → piece ≡ text → PutAs v z piece turn (Some status) → Answers a left w z start x status
-answered a b left w v z kept s t start u x n text piece turn status so_far turned none same put =
-    ended_put a b left w v z kept s t start u x n text turn status so_far turned none (subst (λ (y : List ℕ). PutAs v z y turn (Some status)) same put)
+pub answered : (command : Command) (a b left w v z : Option (List ℕ)) (kept : List ℕ) (s t : State) (start u x : Work) (n : ℕ) (text piece : List ℕ) (turn : Option Turn) (status : Status) (so_far : Advances command a b w v s start u n)
+    → TurnFrom command b (ahead kept left) so_far.read t (so_far.said ++ text) start x turn → (turn ≡ None → kept ≡ []) → piece ≡ text → PutAs v z piece turn (Some status) → Answers command a left w z start x status
+answered command a b left w v z kept s t start u x n text piece turn status so_far turned none same put =
+    ended_put command a b left w v z kept s t start u x n text turn status so_far turned none (subst (λ (y : List ℕ). PutAs v z y turn (Some status)) same put)

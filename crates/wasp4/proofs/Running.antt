@@ -8,10 +8,12 @@ use Rattle.deck_lines.specs.Deck.{body_of, deck_at}
 use Rattle.deck_lines.specs.declared.line.Line.{Line}
 use Rattle.sim_engine.specs.Engine.{Run}
 use Rattle.sim_sweep.specs.Told.{CanTell, GainsOnly}
+use Rattle.wasp_session.specs.Checks.{Open, open_at}
 use Rattle.wasp_session.specs.Keys.{AreKeys, DemandsOn}
-use Rattle.wasp_session.specs.Said.{IsLineTold, Tells, joined, nothing}
+use Rattle.wasp_session.specs.Said.{IsLineTold, TellsAll, joined, nothing}
 use Rattle.wasp_session.specs.State.{Follows, IsState, Keeps, State}
 use Rattle.wasp_session.specs.Steps.{AddsKeys, HasCountsLeft, IfBoth, Simulates}
+use Rattle.wasp_session.specs.declared.command.Command.{Command}
 use Rattle.wasp_session.proofs.FollowSteps.{deck_same, keeps_more, keys_more}
 use Rattle.wasp_session.proofs.TellSteps.{goes_on_behind}
 use Rattle.wasp4.specs.Out.{IsAnswered, closing}
@@ -69,34 +71,40 @@ worked_more keys new years more w v u h counts details tape_same told only = rec
       record { was = early.was; told = early.told; is = late.is ∙ ap (λ (z : List Run). z ++ new) early.is ∙ append_assoc early.was keys new };
 }
 
-pub follows_of : (read : List Line) (s : State) (said : List ℕ) (w v : Work) → HasRun read s said w v → Follows read s
-follows_of read s said w v r = record { deck = r.deck; plans = r.plans; keys = r.keys; are_keys = r.are_keys; keeps = r.keeps }
+pub follows_of : (command : Command) (read : List Line) (s : State) (said : List ℕ) (w v : Work) → HasRun command read s said w v → Follows read s
+follows_of command read s said w v r = record { deck = r.deck; plans = r.plans; checks = r.checks; opened = r.opened; keys = r.keys; are_keys = r.are_keys; keeps = r.keeps }
 
 -- a line more
-pub run_more : (read : List Line) (line : Line) (s t : State) (said more : List ℕ) (w v u : Work) → HasRun read s said w v
-    → Follows (read ++ line ∷ []) t → Tells (IsLineTold read line) [] more v.detailed u.detailed
-    → Simulates (DemandsOn (body_of s.deck) line) s.book s.kept t.book t.kept v.simulated u.simulated v.tape v.runs u.runs
-    → u.detailed ≤ v.detailed + 240 → u.tape ≡ v.tape → HasRun (read ++ line ∷ []) t (said ++ more) w u
-run_more read line s t said more w v u r follows tells sim few same =
-    let adds : AddsKeys (DemandsOn (deck_at read) line) s.book s.kept t.book t.kept sim.new
-    = subst (λ (d : Says). AddsKeys (DemandsOn d line) s.book s.kept t.book t.kept sim.new) (deck_same read s.deck r.deck) sim.adds in
+pub run_more : (command : Command) (read : List Line) (line : Line) (s t : State) (said more : List ℕ) (w v u : Work) → HasRun command read s said w v → t.command ≡ s.command
+    → Follows (read ++ line ∷ []) t → TellsAll (IsLineTold read line) [] more v.detailed u.detailed s.nos t.nos
+    → Simulates (DemandsOn (body_of s.deck) s.opened line) s.book s.kept t.book t.kept v.simulated u.simulated v.tape v.runs u.runs
+    → u.detailed ≤ v.detailed + 240 → u.tape ≡ v.tape → HasRun command (read ++ line ∷ []) t (said ++ more) w u
+run_more command read line s t said more w v u r stays follows tells sim few same =
+    let on_deck : AddsKeys (DemandsOn (deck_at read) s.opened line) s.book s.kept t.book t.kept sim.new
+    = subst (λ (d : Says). AddsKeys (DemandsOn d s.opened line) s.book s.kept t.book t.kept sim.new) (deck_same read s.deck r.deck) sim.adds in
+    let adds : AddsKeys (DemandsOn (deck_at read) (open_at read) line) s.book s.kept t.book t.kept sim.new
+    = subst (λ (o : Option Open). AddsKeys (DemandsOn (deck_at read) o line) s.book s.kept t.book t.kept sim.new) r.opened on_deck in
     record {
+      command = stays ∙ r.command;
       told = joined r.told tells.told;
       is_told = goes_on_behind read line r.told tells.told r.is_told tells.is;
       text = ap (λ (x : List ℕ). x ++ more) r.text ∙ ap (λ (x : List ℕ). r.told.text ++ x) tells.text;
       keys = r.keys ++ sim.new;
       are_keys = keys_more read line s.book t.book s.kept t.kept r.keys sim.new r.are_keys r.keeps adds;
-      keeps = keeps_more (DemandsOn (deck_at read) line) s.book t.book s.kept t.kept r.keys sim.new r.keeps adds follows.keeps.due;
+      keeps = keeps_more (DemandsOn (deck_at read) (open_at read) line) s.book t.book s.kept t.kept r.keys sim.new r.keeps adds follows.keeps.due;
       deck = follows.deck;
       plans = follows.plans;
+      checks = follows.checks;
+      opened = follows.opened;
+      nos = omega (arith, r.nos, tells.nos);
       worked = worked_more r.keys sim.new r.told.chosen tells.told.chosen w v u r.worked sim.counts tells.chosen same sim.told sim.only_told;
       few = omega (arith, r.few, few, length-append read (line ∷ []));
     }
 
 -- the closing
-pub closed : (read : List Line) (s : State) (said more : List ℕ) (w v : Work) (m : Option Malformed) → HasRun read s said w v → more ≡ closing m (length s.kept)
+pub closed : (command : Command) (read : List Line) (s : State) (said more : List ℕ) (w v : Work) (m : Option Malformed) → HasRun command read s said w v → more ≡ closing m (length s.kept)
     → IsAnswered (record { lines = read; malformed = m }) (said ++ more) w v
-closed read s said more w v m r e = record {
+closed command read s said more w v m r e = record {
   told = r.told;
   is_told = r.is_told;
   keys = r.keys;
@@ -105,11 +113,17 @@ closed read s said more w v m r e = record {
   worked = r.worked;
 }
 
--- the counts can rise by what a PLAN takes
-pub counts_left : (read : List Line) (s : State) (said : List ℕ) (w v : Work) → IsState s → HasRun read s said w v → length read ≤ 100000
+-- and the NOs in it
+pub closed_nos : (command : Command) (read : List Line) (s : State) (said more : List ℕ) (w v : Work) (m : Option Malformed) (r : HasRun command read s said w v) (e : more ≡ closing m (length s.kept))
+    → s.nos ≡ (closed command read s said more w v m r e).told.nos
+unfolding closed
+closed_nos command read s said more w v m r e = r.nos
+
+-- the counts can rise by what a line takes
+pub counts_left : (command : Command) (read : List Line) (s : State) (said : List ℕ) (w v : Work) → IsState s → HasRun command read s said w v → length read ≤ 100000
     → w.simulated < 2 ^ 63 → w.detailed < 2 ^ 63 → HasCountsLeft v.simulated v.detailed
-counts_left read s said w v is r few simulated detailed = record {
-  keys = omega (arith, r.worked.simulated, r.keeps.many, is.rows, is.few, simulated);
+counts_left command read s said w v is r few simulated detailed = record {
+  keys = omega (arith, r.worked.simulated, r.keeps.many, is.rows, is.few, is.few_checks, simulated);
   years = omega (arith, r.few, few, detailed);
 }
 
@@ -125,8 +139,9 @@ no_keys = record {
 }
 
 -- before the first line
-pub run_none : (s : State) (w : Work) → Follows [] s → HasRun [] s [] w w
-run_none s w follows = record {
+pub run_none : (command : Command) (s : State) (w : Work) → s.command ≡ command → s.nos ≡ 0 → Follows [] s → HasRun command [] s [] w w
+run_none command s w same nos follows = record {
+  command = same;
   told = nothing;
   is_told = refl;
   text = refl;
@@ -135,6 +150,9 @@ run_none s w follows = record {
   keeps = subst (Keeps s.book s.kept) (none_of follows.keys follows.are_keys) follows.keeps;
   deck = follows.deck;
   plans = follows.plans;
+  checks = follows.checks;
+  opened = follows.opened;
+  nos = nos;
   worked = worked_none w;
   few = omega arith;
 }
@@ -142,22 +160,22 @@ run_none s w follows = record {
 -- ---- by the first of some engines
 
 -- a line more
-pub run_more_by : {X : Type 0} (work : X → Work) (engines after : List X) (read : List Line) (line : Line) (s t : State) (said text more : List ℕ) (w : Work)
-    → 1 ≤ length engines → length after ≡ length engines → text ≡ [] → HasRun read s said w (first_work work engines) → Follows (read ++ line ∷ []) t
-    → IfBoth (slice_get engines 0) (slice_get after 0) (λ x y. Tells (IsLineTold read line) text more (work x).detailed (work y).detailed)
-    → IfBoth (slice_get engines 0) (slice_get after 0) (λ x y. Simulates (DemandsOn (body_of s.deck) line) s.book s.kept t.book t.kept (work x).simulated (work y).simulated (work x).tape (work x).runs (work y).runs)
+pub run_more_by : {X : Type 0} (work : X → Work) (engines after : List X) (command : Command) (read : List Line) (line : Line) (s t : State) (said text more : List ℕ) (w : Work)
+    → 1 ≤ length engines → length after ≡ length engines → text ≡ [] → HasRun command read s said w (first_work work engines) → t.command ≡ s.command → Follows (read ++ line ∷ []) t
+    → IfBoth (slice_get engines 0) (slice_get after 0) (λ x y. TellsAll (IsLineTold read line) text more (work x).detailed (work y).detailed s.nos t.nos)
+    → IfBoth (slice_get engines 0) (slice_get after 0) (λ x y. Simulates (DemandsOn (body_of s.deck) s.opened line) s.book s.kept t.book t.kept (work x).simulated (work y).simulated (work x).tape (work x).runs (work y).runs)
     → IfBoth (slice_get engines 0) (slice_get after 0) (λ x y. (work y).detailed ≤ (work x).detailed + 240)
     → IfBoth (slice_get engines 0) (slice_get after 0) (λ x y. (work y).tape ≡ (work x).tape)
-    → HasRun (read ++ line ∷ []) t (said ++ more) w (first_work work after)
-run_more_by {X} work [] after read line s t said text more w some same clear r follows tells sim few tape = absurd (omega (arith, some))
-run_more_by {X} work (x ∷ xs) [] read line s t said text more w some same clear r follows tells sim few tape = absurd (omega (arith, same))
-run_more_by {X} work (x ∷ xs) (y ∷ ys) read line s t said text more w some same clear r follows tells sim few tape =
-    run_more read line s t said more w (work x) (work y) r follows (subst (λ (z : List ℕ). Tells (IsLineTold read line) z more (work x).detailed (work y).detailed) clear tells) sim few tape
+    → HasRun command (read ++ line ∷ []) t (said ++ more) w (first_work work after)
+run_more_by {X} work [] after command read line s t said text more w some same clear r stays follows tells sim few tape = absurd (omega (arith, some))
+run_more_by {X} work (x ∷ xs) [] command read line s t said text more w some same clear r stays follows tells sim few tape = absurd (omega (arith, same))
+run_more_by {X} work (x ∷ xs) (y ∷ ys) command read line s t said text more w some same clear r stays follows tells sim few tape =
+    run_more command read line s t said more w (work x) (work y) r stays follows (subst (λ (z : List ℕ). TellsAll (IsLineTold read line) z more (work x).detailed (work y).detailed s.nos t.nos) clear tells) sim few tape
 
-pub counts_left_by : {X : Type 0} (work : X → Work) (engines : List X) (read : List Line) (s : State) (said : List ℕ) (w : Work) → IsState s → HasRun read s said w (first_work work engines) → length read ≤ 100000
+pub counts_left_by : {X : Type 0} (work : X → Work) (engines : List X) (command : Command) (read : List Line) (s : State) (said : List ℕ) (w : Work) → IsState s → HasRun command read s said w (first_work work engines) → length read ≤ 100000
     → w.simulated < 2 ^ 63 → w.detailed < 2 ^ 63 → IfSome (slice_get engines 0) (λ e. HasCountsLeft (work e).simulated (work e).detailed)
-counts_left_by {X} work [] read s said w is r few simulated detailed = tt
-counts_left_by {X} work (x ∷ xs) read s said w is r few simulated detailed = counts_left read s said w (work x) is r few simulated detailed
+counts_left_by {X} work [] command read s said w is r few simulated detailed = tt
+counts_left_by {X} work (x ∷ xs) command read s said w is r few simulated detailed = counts_left command read s said w (work x) is r few simulated detailed
 
 pub first_below : {X : Type 0} (work : X → Work) (engines : List X) (count : Work → ℕ) → 1 ≤ length engines → IfSome (slice_get engines 0) (λ e. count (work e) < 2 ^ 63) → count (first_work work engines) < 2 ^ 63
 first_below {X} work [] count some h = absurd (omega (arith, some))

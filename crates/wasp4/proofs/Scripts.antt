@@ -11,33 +11,48 @@ use Rattle.deck_lines.specs.declared.fault.LineFault.{LineFault}
 use Rattle.deck_lines.specs.declared.fault.LineKind.TheVariants as kinds
 use Rattle.deck_lines.specs.declared.line.Line.{Line}
 use Rattle.deck_lines.specs.declared.line.Line.TheVariants as lines
+use Rattle.deck_lines.specs.declared.line.Mode.{Mode}
+use Rattle.wasp_session.specs.Checks.{check_count, open_at}
+use Rattle.wasp_session.specs.Modes.{mode_of}
 use Rattle.wasp_session.specs.Said.{plan_count}
+use Rattle.wasp_session.specs.State.{State}
+use Rattle.wasp_session.specs.declared.command.Command.{Command}
 use Rattle.wasp4.specs.Progress.{Leads}
 use Rattle.wasp4.specs.Script.{Script, ends, line_behind, line_then, script_behind, stated, stops}
+use Rattle.wasp4.specs.Work.{HasRun, Work}
 
-pub no_end : (read : List Line) → script_behind read [] ≡ stops read (fault kinds.NoEnd 1)
+pub no_end : (command : Command) (read : List Line) → script_behind command read [] ≡ stops read (fault kinds.NoEnd 1)
 unfolding script_behind
-no_end read = refl
+no_end command read = refl
 
-pub line_more : (read : List Line) (bytes : List ℕ) (more : List (List ℕ)) → script_behind read (bytes ∷ more) ≡ line_then read (λ ls. script_behind ls more) (line_behind read bytes)
+pub line_more : (command : Command) (read : List Line) (bytes : List ℕ) (more : List (List ℕ)) → script_behind command read (bytes ∷ more) ≡ line_then read (λ ls. script_behind command ls more) (line_behind command read bytes)
 unfolding script_behind
-line_more read bytes more = refl
+line_more command read bytes more = refl
+
+-- what the bytes of a line are to a session
+abbrev pub stated_to : State → List ℕ → Result Line LineFault
+stated_to s bytes = stated (mode_of s.command s.opened) s.plans s.checks bytes
 
 -- within the number of lines a line is what its bytes state
-within : (read : List Line) (plans : ℕ) (bytes : List ℕ) → length read < 100000 → plans ≡ plan_count read → line_behind read bytes ≡ stated plans bytes
-within read plans bytes few e =
-    ap (λ (b : Bool). if b then stated (plan_count read) bytes else Err (fault kinds.ManyLines 1)) (lt-ltb (length read) 100000 few)
-    ∙ ap (λ (n : ℕ). stated n bytes) (sym e)
+within : (command : Command) (read : List Line) (s : State) (said : List ℕ) (w v : Work) (bytes : List ℕ) → length read < 100000 → HasRun command read s said w v → line_behind command read bytes ≡ stated_to s bytes
+within command read s said w v bytes few r =
+    ap (λ (b : Bool). if b then stated (mode_of command (open_at read)) (plan_count read) (check_count read) bytes else Err (fault kinds.ManyLines 1)) (lt-ltb (length read) 100000 few)
+    ∙ ap (λ (c : Command). stated (mode_of c (open_at read)) (plan_count read) (check_count read) bytes) (sym r.command)
+    ∙ (λ i. stated (mode_of s.command (sym r.opened i)) (sym r.plans i) (sym r.checks i) bytes)
 
-pub faulty_here : (read : List Line) (plans : ℕ) (bytes : List ℕ) (f : LineFault) → length read < 100000 → plans ≡ plan_count read → stated plans bytes ≡ Err f
-    → (more : List (List ℕ)) → script_behind read (bytes ∷ more) ≡ stops read f
-faulty_here read plans bytes f few e is more =
-    line_more read bytes more ∙ ap (line_then read (λ ls. script_behind ls more)) (within read plans bytes few e ∙ is)
+-- what comes of it
+line_here : (command : Command) (read : List Line) (s : State) (said : List ℕ) (w v : Work) (bytes : List ℕ) (result : Result Line LineFault) → length read < 100000 → HasRun command read s said w v → stated_to s bytes ≡ result
+    → (more : List (List ℕ)) → script_behind command read (bytes ∷ more) ≡ line_then read (λ ls. script_behind command ls more) result
+line_here command read s said w v bytes result few r is more =
+    line_more command read bytes more ∙ ap (line_then read (λ ls. script_behind command ls more)) (within command read s said w v bytes few r ∙ is)
 
-pub ends_here : (read : List Line) (plans : ℕ) (bytes : List ℕ) → length read < 100000 → plans ≡ plan_count read → stated plans bytes ≡ Ok lines.End
-    → (more : List (List ℕ)) → script_behind read (bytes ∷ more) ≡ ends read
-ends_here read plans bytes few e is more =
-    line_more read bytes more ∙ ap (line_then read (λ ls. script_behind ls more)) (within read plans bytes few e ∙ is)
+pub faulty_here : (command : Command) (read : List Line) (s : State) (said : List ℕ) (w v : Work) (bytes : List ℕ) (f : LineFault) → length read < 100000 → HasRun command read s said w v → stated_to s bytes ≡ Err f
+    → (more : List (List ℕ)) → script_behind command read (bytes ∷ more) ≡ stops read f
+faulty_here command read s said w v bytes f few r is more = line_here command read s said w v bytes (Err f) few r is more
+
+pub ends_here : (command : Command) (read : List Line) (s : State) (said : List ℕ) (w v : Work) (bytes : List ℕ) → length read < 100000 → HasRun command read s said w v → stated_to s bytes ≡ Ok lines.End
+    → (more : List (List ℕ)) → script_behind command read (bytes ∷ more) ≡ ends read
+ends_here command read s said w v bytes few r is more = line_here command read s said w v bytes (Ok lines.End) few r is more
 
 then_goes : (read : List Line) (line : Line) (rest : List Line → Script) → line ≢ lines.End → line_then read rest (Ok line) ≡ rest (read ++ line ∷ [])
 then_goes read lines.End rest ne = absurd (ne refl)
@@ -50,31 +65,33 @@ then_goes read (lines.Cert l) rest ne = refl
 then_goes read lines.Skip rest ne = refl
 then_goes read lines.EndCheck rest ne = refl
 
-pub goes_on : (read : List Line) (plans : ℕ) (bytes : List ℕ) (line : Line) → length read < 100000 → plans ≡ plan_count read → stated plans bytes ≡ Ok line → line ≢ lines.End
-    → Leads read bytes line
-goes_on read plans bytes line few e is ne more =
-    line_more read bytes more ∙ ap (line_then read (λ ls. script_behind ls more)) (within read plans bytes few e ∙ is) ∙ then_goes read line (λ ls. script_behind ls more) ne
+pub goes_on : (command : Command) (read : List Line) (s : State) (said : List ℕ) (w v : Work) (bytes : List ℕ) (line : Line) → length read < 100000 → HasRun command read s said w v → stated_to s bytes ≡ Ok line → line ≢ lines.End
+    → Leads command read bytes line
+goes_on command read s said w v bytes line few r is ne more =
+    line_here command read s said w v bytes (Ok line) few r is more ∙ then_goes read line (λ ls. script_behind command ls more) ne
 
 -- a line of more than 4,096 bytes
-long_is : (plans : ℕ) (bytes : List ℕ) → 4096 < length bytes → stated plans bytes ≡ Err (fault kinds.Long 4097)
+long_is : (mode : Mode) (plans checks : ℕ) (bytes : List ℕ) → 4096 < length bytes → stated mode plans checks bytes ≡ Err (fault kinds.Long 4097)
 unfolding line_of
-long_is plans bytes long = rw (lt-ltb 4096 (length bytes) long) refl
+long_is mode plans checks bytes long = rw (lt-ltb 4096 (length bytes) long) refl
 
-pub long_here : (read : List Line) (plans : ℕ) (line : List ℕ) (text : Option (List ℕ)) → length read < 100000 → plans ≡ plan_count read → 4096 < length line
-    → IfSome text (λ t. LineBegins t line) → IfSome text (λ t. script_behind read (lines_of t) ≡ stops read (fault kinds.Long 4097))
-long_here read plans line None few e long begins = tt
-long_here read plans line (Some t) few e long begins =
-    ap (script_behind read) begins.2
-    ∙ faulty_here read plans (line ++ begins.0) (fault kinds.Long 4097) few e (long_is plans (line ++ begins.0) (omega (arith, long, length-append line begins.0))) begins.1
+pub long_here : (command : Command) (read : List Line) (s : State) (said : List ℕ) (w v : Work) (line : List ℕ) (text : Option (List ℕ)) → length read < 100000 → HasRun command read s said w v → 4096 < length line
+    → IfSome text (λ t. LineBegins t line) → IfSome text (λ t. script_behind command read (lines_of t) ≡ stops read (fault kinds.Long 4097))
+long_here command read s said w v line None few r long begins = tt
+long_here command read s said w v line (Some t) few r long begins =
+    ap (script_behind command read) begins.2
+    ∙ faulty_here command read s said w v (line ++ begins.0) (fault kinds.Long 4097) few r
+    (long_is (mode_of s.command s.opened) s.plans s.checks (line ++ begins.0) (omega (arith, long, length-append line begins.0))) begins.1
 
 not_below : (n : ℕ) → 100000 ≡ n → nat_lt n 100000 ≡ false
 not_below n e = le-ltb n 100000 (omega (arith, e))
 
 -- the 100,001st line
-pub too_many : (read : List Line) (bytes : List ℕ) (more : List (List ℕ)) → 100000 ≡ length read → script_behind read (bytes ∷ more) ≡ stops read (fault kinds.ManyLines 1)
-too_many read bytes more e =
-    line_more read bytes more
-    ∙ ap (λ (b : Bool). line_then read (λ ls. script_behind ls more) (if b then stated (plan_count read) bytes else Err (fault kinds.ManyLines 1))) (not_below (length read) e)
+pub too_many : (command : Command) (read : List Line) (bytes : List ℕ) (more : List (List ℕ)) → 100000 ≡ length read → script_behind command read (bytes ∷ more) ≡ stops read (fault kinds.ManyLines 1)
+too_many command read bytes more e =
+    line_more command read bytes more
+    ∙ ap (λ (b : Bool). line_then read (λ ls. script_behind command ls more) (if b then stated (mode_of command (open_at read)) (plan_count read) (check_count read) bytes else Err (fault kinds.ManyLines 1)))
+    (not_below (length read) e)
 
 abbrev Keeping : List Line → Script → Type 0
 Keeping read script = (rest : List Line) × (script.lines ≡ read ++ rest)
@@ -95,7 +112,7 @@ keeps_then read rest (Ok lines.Skip) h = keeping_line read lines.Skip (rest (rea
 keeps_then read rest (Ok lines.EndCheck) h = keeping_line read lines.EndCheck (rest (read ++ lines.EndCheck ∷ [])) (h (read ++ lines.EndCheck ∷ []))
 
 -- a script has the lines that were read, and perhaps others behind them
-pub keeps_lines : (more : List (List ℕ)) (read : List Line) → (rest : List Line) × ((script_behind read more).lines ≡ read ++ rest)
-keeps_lines [] read = subst (Keeping read) (sym (no_end read)) ([], sym (append-nil read))
-keeps_lines (bytes ∷ more) read =
-    subst (Keeping read) (sym (line_more read bytes more)) (keeps_then read (λ ls. script_behind ls more) (line_behind read bytes) (keeps_lines more))
+pub keeps_lines : (command : Command) (more : List (List ℕ)) (read : List Line) → (rest : List Line) × ((script_behind command read more).lines ≡ read ++ rest)
+keeps_lines command [] read = subst (Keeping read) (sym (no_end command read)) ([], sym (append-nil read))
+keeps_lines command (bytes ∷ more) read =
+    subst (Keeping read) (sym (line_more command read bytes more)) (keeps_then read (λ ls. script_behind command ls more) (line_behind command read bytes) (keeps_lines command more))

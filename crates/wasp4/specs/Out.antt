@@ -1,5 +1,5 @@
 -- The text that a script is answered with, and the words of the command line. This program's own.
-use Rattle.std.specs.Prelude.{◌≡◌, ◌&&◌, ◌==◌, ℕ, ◌⊎◌, Bool, false, not, List, [], ◌∷◌, ◌++◌, length, Option, None, Some, codes}
+use Rattle.std.specs.Prelude.{◌≡◌, ◌==◌, ℕ, ◌⊎◌, List, [], ◌∷◌, ◌++◌, length, Option, None, Some, codes, if◌then◌else◌}
 use Rattle.std.specs.Str.{bytes_eq}
 use Rattle.deck_lines.specs.declared.line.Line.{Line}
 use Rattle.report_text.specs.Lines.{keys_line}
@@ -8,6 +8,8 @@ use Rattle.sim_engine.specs.Engine.{Run}
 use Rattle.wasp_session.specs.Case.{Told}
 use Rattle.wasp_session.specs.Keys.{AreKeys}
 use Rattle.wasp_session.specs.Said.{AreTold}
+use Rattle.wasp_session.specs.declared.command.Command.{Command}
+use Rattle.wasp_session.specs.declared.command.Command.TheVariants as commands
 use Rattle.wasp4.specs.Script.{Malformed, Script}
 use Rattle.wasp4.specs.Work.{HasWorked, Work}
 
@@ -16,8 +18,9 @@ abbrev pub closing : Option Malformed → ℕ → List ℕ
 closing None keys = keys_line keys
 closing (Some m) keys = malformed_line m.line m.fault ++ keys_line keys
 
--- The headline: what is said is the reports of the PLAN lines, each on the deck as edited so far, and the closing;
--- each demanded key was simulated once, and the number that is printed is theirs.
+-- The headline: what is said is the reports of the PLAN lines, or what the checks say of their certificates, each on
+-- the deck as edited so far, and the closing; each demanded key was simulated once, and the number that is printed is
+-- theirs.
 pub record IsAnswered (script : Script) (said : List ℕ) (start now : Work) : Type 0 where
   pub told : Told
   pub is_told : AreTold script.lines told
@@ -50,14 +53,19 @@ IsFront script said = IsToldFront script said ⊎ IsWholeFront script said
 
 -- ---- the words of the command line
 
-abbrev pub is_plan : List (List ℕ) → Bool
-is_plan [] = false
-is_plan (w ∷ []) = bytes_eq w (codes "plan")
-is_plan (w ∷ v ∷ ws) = false
+-- the command that one word is
+abbrev pub command_of : List ℕ → Option Command
+command_of word = if bytes_eq word (codes "plan") then Some commands.Plan else if bytes_eq word (codes "check") then Some commands.Check else None
 
--- the words are those of a plan, and there is an engine
-abbrev pub is_accepted : List (List ℕ) → ℕ → Bool
-is_accepted words engines = is_plan words && not (engines == 0)
+-- what the words ask for
+abbrev pub asked : List (List ℕ) → Option Command
+asked [] = None
+asked (word ∷ []) = command_of word
+asked (word ∷ other ∷ words) = None
+
+-- the same where there is an engine
+abbrev pub accepted : List (List ℕ) → ℕ → Option Command
+accepted words engines = if engines == 0 then None else asked words
 
 abbrev pub usage_text : List ℕ
 usage_text = codes "USAGE plan [--workers N] | check | trial SEED YEARS CANDIDATES\n"

@@ -1,5 +1,5 @@
--- The script in a text: its lines in mode Plan, up to the first END or the first line with a fault. This
--- program's own.
+-- The script in a text: its lines, each in the mode that the command and the lines before it set, up to the first END
+-- or the first line with a fault. This program's own.
 use Rattle.std.specs.Prelude.{ℕ, ◌+◌, List, [], ◌∷◌, ◌++◌, length, nat_lt, if◌then◌else◌, Option, None, Some, Result, Ok, Err}
 use Rattle.line_reader.specs.Lines.{lines_of}
 use Rattle.deck_lines.specs.Grammar.{line_of}
@@ -8,8 +8,11 @@ use Rattle.deck_lines.specs.declared.fault.LineFault.{LineFault}
 use Rattle.deck_lines.specs.declared.fault.LineKind.TheVariants as kinds
 use Rattle.deck_lines.specs.declared.line.Line.{Line}
 use Rattle.deck_lines.specs.declared.line.Line.TheVariants as lines
-use Rattle.deck_lines.specs.declared.line.Mode.TheVariants as modes
+use Rattle.deck_lines.specs.declared.line.Mode.{Mode}
+use Rattle.wasp_session.specs.Checks.{check_count, open_at}
+use Rattle.wasp_session.specs.Modes.{mode_of}
 use Rattle.wasp_session.specs.Said.{plan_count}
+use Rattle.wasp_session.specs.declared.command.Command.{Command}
 
 -- the first line with a fault, by its number from 1
 pub record Malformed : Type 0 where
@@ -23,18 +26,25 @@ pub record Script : Type 0 where
 
 -- ---- one line
 
--- a 65th PLAN line is a fault
-abbrev pub within_plans : ℕ → Line → Result Line LineFault
-within_plans plans lines.Plan = if nat_lt plans 64 then Ok lines.Plan else Err (fault kinds.Many 1)
-within_plans plans line = Ok line
+-- a 65th PLAN line is a fault, and a 65th CHECK line
+abbrev pub at_most_64 : ℕ → Line → Result Line LineFault
+at_most_64 earlier line = if nat_lt earlier 64 then Ok line else Err (fault kinds.Many 1)
 
--- what the bytes of a line are behind so many PLAN lines
-abbrev pub stated : ℕ → List ℕ → Result Line LineFault
-stated plans bytes = line_of modes.Plan bytes >>= within_plans plans
+abbrev pub within_counts : ℕ → ℕ → Line → Result Line LineFault
+within_counts plans checks lines.Plan = at_most_64 plans lines.Plan
+within_counts plans checks (lines.Check c) = at_most_64 checks (lines.Check c)
+within_counts plans checks line = Ok line
+
+-- what the bytes of a line are in a mode, behind so many PLAN and CHECK lines
+abbrev pub stated : Mode → ℕ → ℕ → List ℕ → Result Line LineFault
+stated mode plans checks bytes = line_of mode bytes >>= within_counts plans checks
 
 -- behind other lines: there are at most 100,000
-abbrev pub line_behind : List Line → List ℕ → Result Line LineFault
-line_behind before bytes = if nat_lt (length before) 100000 then stated (plan_count before) bytes else Err (fault kinds.ManyLines 1)
+abbrev pub line_behind : Command → List Line → List ℕ → Result Line LineFault
+line_behind command before bytes =
+    if nat_lt (length before) 100000
+    then stated (mode_of command (open_at before)) (plan_count before) (check_count before) bytes
+    else Err (fault kinds.ManyLines 1)
 
 -- ---- all lines
 
@@ -52,9 +62,9 @@ line_then before rest (Err f) = stops before f
 line_then before rest (Ok lines.End) = ends before
 line_then before rest (Ok line) = rest (before ++ line ∷ [])
 
-unfoldable pub script_behind : List Line → List (List ℕ) → Script
-script_behind before [] = stops before (fault kinds.NoEnd 1)
-script_behind before (bytes ∷ texts) = line_then before (λ read. script_behind read texts) (line_behind before bytes)
+unfoldable pub script_behind : Command → List Line → List (List ℕ) → Script
+script_behind command before [] = stops before (fault kinds.NoEnd 1)
+script_behind command before (bytes ∷ texts) = line_then before (λ read. script_behind command read texts) (line_behind command before bytes)
 
-abbrev pub script_of : List ℕ → Script
-script_of text = script_behind [] (lines_of text)
+abbrev pub script_of : Command → List ℕ → Script
+script_of command text = script_behind command [] (lines_of text)

@@ -6,9 +6,11 @@ use Rattle.deck_lines.specs.declared.line.Line.{Line}
 use Rattle.sim_engine.specs.Engine.{Run, Tape}
 use Rattle.sim_sweep.specs.Told.{CanTell, GainsOnly}
 use Rattle.wasp_session.specs.Case.{Told}
+use Rattle.wasp_session.specs.Checks.{check_count, open_at}
 use Rattle.wasp_session.specs.Keys.{AreKeys}
 use Rattle.wasp_session.specs.Said.{AreTold, plan_count}
 use Rattle.wasp_session.specs.State.{Keeps, State}
+use Rattle.wasp_session.specs.declared.command.Command.{Command}
 
 -- an engine's counts, its tape and the runs that it tells
 pub record Work : Type 0 where
@@ -34,8 +36,9 @@ pub record HasWorked (keys : List Run) (years : ℕ) (before now : Work) : Type 
   pub told : (t : CanTell before.tape before.runs keys) → now.runs ≡ Some (t.before ++ keys)
   pub only_told : GainsOnly before.runs now.runs keys
 
--- what is said and was done behind the lines that a session has gone through
-pub record HasRun (read : List Line) (s : State) (said : List ℕ) (start now : Work) : Type 0 where
+-- what is said and was done behind the lines that a session of a command has gone through
+pub record HasRun (asked : Command) (read : List Line) (s : State) (said : List ℕ) (start now : Work) : Type 0 where
+  pub command : s.command ≡ asked
   pub told : Told
   pub is_told : AreTold read told
   pub text : said ≡ told.text
@@ -44,5 +47,8 @@ pub record HasRun (read : List Line) (s : State) (said : List ℕ) (start now : 
   pub keeps : Keeps s.book s.kept keys
   pub deck : s.deck ≡ fold changed [] read
   pub plans : s.plans ≡ plan_count read
+  pub checks : s.checks ≡ check_count read
+  pub opened : s.opened ≡ open_at read
+  pub nos : s.nos ≡ told.nos
   pub worked : HasWorked keys told.chosen start now
   pub few : now.detailed ≤ start.detailed + 240 * length read

@@ -1,4 +1,5 @@
-//! The program: plans by a script from standard input, and writes the report to standard output.
+//! The program: plans by a script from standard input, or checks the certificates in one, and writes the report to
+//! standard output.
 //!
 //! `run` is the top call, and its clause is the main theorem: the bytes written are the text defined from the
 //! lines alone, and each key is simulated once. It reads lines (`line_reader`, `deck_lines`), hands each to a session

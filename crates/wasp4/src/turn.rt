@@ -1,20 +1,23 @@
 //! One line of the script, from the source to what it is answered with.
-ghost use Rattle.std.specs.Prelude.{◌≡◌, ◌≢◌, ◌+◌, ◌<◌, ◌≤◌, ◌++◌, [], List, ℕ, IfOk, IfSome, OnOk, None, Ok, Some, length, slice_get};
+ghost use Rattle.std.specs.Prelude.{◌≡◌, ◌≢◌, ◌+◌, ◌<◌, ◌≤◌, ◌++◌, [], List, ℕ, IfOk, IfSome, OnOk, Err, None, Ok, Some, if◌then◌else◌, length, slice_get};
 ghost use Rattle.wasp_io.specs.Causes.{HasCause};
 ghost use Rattle.line_reader.specs.Reading.{ahead};
 ghost use Rattle.deck_lines.specs.Grammar.{IsLine};
-ghost use Rattle.deck_lines.specs.LineFault.{Gives};
+ghost use Rattle.deck_lines.specs.LineFault.{Gives, fault};
+ghost use Rattle.deck_lines.specs.declared.fault.LineKind.TheVariants as kinds;
 ghost use Rattle.deck_lines.specs.declared.line.Line.{Line as Stated};
 ghost use Rattle.deck_lines.specs.declared.line.Line.TheVariants as lines;
 ghost use Rattle.report_text.specs.Lines.{keys_line};
 ghost use Rattle.report_text.specs.Refusals.{malformed_line};
+ghost use Rattle.wasp_session.specs.Modes.{IsOfMode, mode_of};
 ghost use Rattle.wasp_session.specs.Steps.{HasCountsLeft};
+ghost use Rattle.wasp_session.specs.declared.command.Command.{Command};
 ghost use Rattle.wasp4.specs.Progress.{AnswersLine, TurnFrom};
-ghost use Rattle.wasp4.specs.Script.{stated};
+ghost use Rattle.wasp4.specs.Script.{stated, within_counts};
 ghost use Rattle.wasp4.specs.Work.{HasRun, Work, first_work};
 
 use crate::status::{Ending, Turn};
-use deck_lines::{Line, LineError, LineFault, LineKind, Mode, read_line};
+use deck_lines::{Line, LineError, LineFault, LineKind, read_line};
 use line_reader::{ByteReader, Found, Next, next_line};
 use report_text::{write_keys, write_malformed};
 use sim_engine::SimEngine;
@@ -29,6 +32,9 @@ pub(crate) const MOST_LINES: u64 = 100_000;
 /// The most PLAN lines of a script.
 const MOST_PLANS: u64 = 64;
 
+/// The most CHECK lines of a script.
+const MOST_CHECKS: u64 = 64;
+
 /// Says what is wrong with a line, by its number, and how many keys there were.
 pub(crate) fn refuse(
     session: &Session,
@@ -42,14 +48,27 @@ pub(crate) fn refuse(
     write_keys(session.keys(), text)
 }
 
+/// Whether the line is one PLAN or CHECK more than a script may have.
+fn is_past(session: &Session, line: &Line) -> bool
+    ensures { within_counts session.now.plans session.now.checks line.now ≡ (if result then Err (fault kinds.Many 1) else Ok line.now) }
+{
+    match line {
+        Line::Plan => MOST_PLANS <= session.plans(),
+        Line::Check(_) => MOST_CHECKS <= session.checks(),
+        _ => false,
+    }
+}
+
 /// The line that bytes are behind those that the session has gone through.
 fn state(alloc: Global, session: &Session, bytes: &[u8]) -> Result<Line, LineError>
-    ensures exact { Gives (λ l. l) result (stated session.now.plans bytes.now) }
+    ensures exact { Gives (λ l. l) result (stated (mode_of session.now.command session.now.opened) session.now.plans session.now.checks bytes.now) }
     ensures in_form { IfOk result (λ l. IsLine l) }
+    ensures of_mode { IfOk result (λ l. IsOfMode (mode_of session.now.command session.now.opened) l) }
     ensures plans { result ≡ Ok lines.Plan → session.now.plans < 64 }
+    ensures checks { (c : ℕ) → result ≡ Ok (lines.Check c) → session.now.checks < 64 }
 {
-    let line = read_line(alloc, Mode::Plan, bytes)?;
-    if matches!(line, Line::Plan) && MOST_PLANS <= session.plans() {
+    let line = read_line(alloc, session.mode(), bytes)?;
+    if is_past(session, &line) {
         return Err(LineError::Fault(LineFault {
             kind: LineKind::Many,
             column: 1,
@@ -72,13 +91,14 @@ fn answer<E: SimEngine>(
     requires some { 1 ≤ length engines.old }
     requires most { length engines.old ≤ 64 }
     requires counts { IfSome (slice_get engines.old 0) (λ e. HasCountsLeft (E.simulated e) (E.detailed e)) }
-    ensures answer { (read : List Stated) (said : List ℕ) (start : Work) → number ≡ length read + 1
-        → HasRun read session.old said start (first_work (λ e. record { simulated = E.simulated e; detailed = E.detailed e; tape = E.tape e; runs = E.runs e }) engines.old)
-        → IfOk result (λ turn. AnswersLine read bytes.now session.new (said ++ text.new.items) start (first_work (λ e. record { simulated = E.simulated e; detailed = E.detailed e; tape = E.tape e; runs = E.runs e }) engines.new) turn) }
+    ensures answer { (command : Command) (read : List Stated) (said : List ℕ) (start : Work) → number ≡ length read + 1
+        → HasRun command read session.old said start (first_work (λ e. record { simulated = E.simulated e; detailed = E.detailed e; tape = E.tape e; runs = E.runs e }) engines.old)
+        → IfOk result (λ turn. AnswersLine command read bytes.now session.new (said ++ text.new.items) start (first_work (λ e. record { simulated = E.simulated e; detailed = E.detailed e; tape = E.tape e; runs = E.runs e }) engines.new) turn) }
 {
     match state(alloc, session, bytes) {
         Ok(line) => match session.line(line, engines, text)? {
             Step::Go => Ok(Turn::Goes),
+            Step::Ended if session.said_no() => Ok(Turn::Over(Ending::CheckNo)),
             Step::Ended => Ok(Turn::Over(Ending::Done)),
         },
         Err(LineError::OutOfMemory) => Err(OutOfMemory),
@@ -116,9 +136,9 @@ pub(crate) fn turn<E: SimEngine, S: Source>(
     requires some { 1 ≤ length engines.old }
     requires most { length engines.old ≤ 64 }
     requires counts { IfSome (slice_get engines.old 0) (λ e. HasCountsLeft (E.simulated e) (E.detailed e)) }
-    ensures turn { (read : List Stated) (said : List ℕ) (start : Work) → number ≡ length read + 1
-        → HasRun read session.old said start (first_work (λ e. record { simulated = E.simulated e; detailed = E.detailed e; tape = E.tape e; runs = E.runs e }) engines.old)
-        → IfOk result (λ turn. TurnFrom (ahead reader.old (S.left source.old)) (ahead reader.new (S.left source.new)) read session.new (said ++ text.new.items) start (first_work (λ e. record { simulated = E.simulated e; detailed = E.detailed e; tape = E.tape e; runs = E.runs e }) engines.new) turn) }
+    ensures turn { (command : Command) (read : List Stated) (said : List ℕ) (start : Work) → number ≡ length read + 1
+        → HasRun command read session.old said start (first_work (λ e. record { simulated = E.simulated e; detailed = E.detailed e; tape = E.tape e; runs = E.runs e }) engines.old)
+        → IfOk result (λ turn. TurnFrom command (ahead reader.old (S.left source.old)) (ahead reader.new (S.left source.new)) read session.new (said ++ text.new.items) start (first_work (λ e. record { simulated = E.simulated e; detailed = E.detailed e; tape = E.tape e; runs = E.runs e }) engines.new) turn) }
     ensures cause { HasCause (S.faults source.old) (S.faults source.new) (result ≡ Ok None) }
     ensures nothing_kept { result ≡ Ok None → reader.new ≡ [] }
 {
@@ -155,8 +175,8 @@ pub(crate) fn past_lines<S: Source>(
     text: &mut Vec<u8>,
 ) -> Result<Option<Turn>, OutOfMemory>
     requires clear { text.old.items ≡ [] }
-    ensures turn { (read : List Stated) (said : List ℕ) (start now : Work) → MOST_LINES ≡ length read → HasRun read session.now said start now
-        → IfOk result (λ turn. TurnFrom (ahead reader.old (S.left source.old)) (ahead reader.new (S.left source.new)) read session.now (said ++ text.new.items) start now turn) }
+    ensures turn { (command : Command) (read : List Stated) (said : List ℕ) (start now : Work) → MOST_LINES ≡ length read → HasRun command read session.now said start now
+        → IfOk result (λ turn. TurnFrom command (ahead reader.old (S.left source.old)) (ahead reader.new (S.left source.new)) read session.now (said ++ text.new.items) start now turn) }
     ensures over { result ≢ Ok (Some Turn.Goes) }
     ensures cause { HasCause (S.faults source.old) (S.faults source.new) (result ≡ Ok None) }
     ensures nothing_kept { result ≡ Ok None → reader.new ≡ [] }

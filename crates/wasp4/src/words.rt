@@ -5,6 +5,7 @@ ghost use Rattle.wasp4.specs.Out as spec;
 use std::alloc::Global;
 use std::marker::Model;
 use wasp_fixed::OutOfMemory;
+use wasp_session::Command;
 
 /// The words after the program's name, which contracts see as a list of words, each a list of bytes.
 #[derive(Drop)]
@@ -42,10 +43,17 @@ impl CommandWords {
         Ok(())
     }
 
-    /// Whether they are the one word `plan`.
-    pub(crate) fn is_plan(&self) -> bool
-        ensures { result ≡ spec.is_plan self.now }
+    /// The command that they ask for: the one word `plan`, or `check`.
+    pub(crate) fn command(&self) -> Option<Command>
+        ensures { result ≡ spec.asked self.now }
     {
-        self.words.len() == 1 && self.words[0].as_str() == "plan"
+        if self.words.len() != 1 {
+            return None;
+        }
+        match self.words[0].as_str() {
+            "plan" => Some(Command::Plan),
+            "check" => Some(Command::Check),
+            _ => None,
+        }
     }
 }

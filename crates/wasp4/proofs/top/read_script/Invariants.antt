@@ -8,7 +8,7 @@ abbrev pub invariant-loop-number : goal.invariant-loop-number
 invariant-loop-number g l =
     let E = g.E.SimEngine in
     record {
-      so_far : Advances (g.S.Source.left l.fn.source) (ahead l.reader (g.S.Source.left l.source)) (g.K.Sink.written l.fn.sink) (g.K.Sink.written l.sink) l.session
+      so_far : Advances l.fn.command (g.S.Source.left l.fn.source) (ahead l.reader (g.S.Source.left l.source)) (g.K.Sink.written l.fn.sink) (g.K.Sink.written l.sink) l.session
           (first_work (λ e. record { simulated = E.simulated e; detailed = E.detailed e; tape = E.tape e; runs = E.runs e }) l.fn.engines)
           (first_work (λ e. record { simulated = E.simulated e; detailed = E.detailed e; tape = E.tape e; runs = E.runs e }) l.engines) l.number;
       same : length l.engines ≡ length l.fn.engines;

@@ -9,4 +9,4 @@ some_of (suc n) e = omega arith
 
 pub returns-in-Err-clause-others : goal.returns-in-Err-clause-others
 returns-in-Err-clause-others g c =
-    others_stay c.read_script.new.engines _ (c.read_script.auto.engines ∙ length_alone c.args.engines.now (some_of (length c.args.engines.now) (sym c.is_empty.ensures ∙ c.if-is_empty.false)))
+    others_stay c.read_script.new.engines _ (c.read_script.auto.engines ∙ length_alone c.args.engines.now (some_of (length c.args.engines.now) (sym c.is_empty.ensures ∙ c.if-not-is_empty.true)))
