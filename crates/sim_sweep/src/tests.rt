@@ -172,7 +172,7 @@ fn told(engine: &TapeEngine) -> Option<usize> {
 fn two_demands_of_one_code_are_simulated_once(rt: HostRuntime) -> Result<(), Fail> {
     let book = gas_book(rt.alloc())?;
     let mut engine = gas_engine(rt.alloc(), &book)?;
-    let mut kept = Kept::new(rt.alloc());
+    let mut kept = Kept::empty(rt.alloc());
     fill_four(&mut kept, &mut engine, &book, [2, 1, 2, 1])?;
     assert_eq!(rt; kept.len(), 2);
     assert_eq!(rt; told(&engine), Some(2));
@@ -183,7 +183,7 @@ fn two_demands_of_one_code_are_simulated_once(rt: HostRuntime) -> Result<(), Fai
 fn a_fill_over_kept_rows_adds_only_the_new(rt: HostRuntime) -> Result<(), Fail> {
     let book = gas_book(rt.alloc())?;
     let mut engine = gas_engine(rt.alloc(), &book)?;
-    let mut kept = Kept::new(rt.alloc());
+    let mut kept = Kept::empty(rt.alloc());
     fill_four(&mut kept, &mut engine, &book, [3, 3, 1, 1])?;
     fill_four(&mut kept, &mut engine, &book, [1, 2, 3, 0])?;
     assert_eq!(rt; kept.len(), 4);
@@ -255,7 +255,7 @@ fn gas_case(
 fn settled(alloc: Global, limit: Limit) -> Result<CaseDone, OutOfMemory> {
     let book = gas_book(alloc)?;
     let mut engine = gas_engine(alloc, &book)?;
-    let mut kept = Kept::new(alloc);
+    let mut kept = Kept::empty(alloc);
     let demands = [demand(&book, 0), demand(&book, 1), demand(&book, 2)];
     fill(&mut kept, &mut engine, &book, &demands)?;
     let job = gas_case(alloc, limit, demands[0], demands[1], demands[2])?;
