@@ -8,5 +8,6 @@ pub mod PieceSteps
 pub mod RowSteps
 pub mod GenerationSteps
 pub mod TapeSteps
+pub mod CountSteps
 pub mod Rooms
 mod WorkedRows

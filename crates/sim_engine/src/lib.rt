@@ -18,6 +18,7 @@ mod costs;
 mod engine;
 mod fleet;
 mod generation;
+mod laws;
 mod period;
 mod plain;
 mod rows;
@@ -28,5 +29,6 @@ mod tests;
 mod water;
 
 pub use engine::SimEngine;
+pub use laws::counts_are_sums;
 pub use plain::PlainEngine;
 pub use tape::{Run, TapeEngine};

@@ -1,6 +1,6 @@
 //! The plain engine.
 ghost use Rattle.std.specs.Prelude.{◌≡◌, ℕ, ◌+◌, ◌≤◌, ◌<◌, [], length, IfOk, OnOk, OnErr, None};
-ghost use Rattle.sim_engine.specs.Engine.{no_room};
+ghost use Rattle.sim_engine.specs.Engine.{no_room, widened};
 
 use crate::engine::SimEngine;
 use crate::fleet::Fleet;
@@ -77,7 +77,7 @@ impl PlainEngine {
         }
     }
 
-    /// Makes a greater room where one is wanted.
+    /// Makes a greater room where one is wanted, and the least that holds both the old one and what is asked for.
     fn grow(&mut self, cells: usize, units: usize) -> Result<(), OutOfMemory>
         requires cells { cells ≤ 65536 }
         requires units { units ≤ 128 }
@@ -85,6 +85,7 @@ impl PlainEngine {
         ensures units { OnOk result (units ≤ self.new.room.units) }
         ensures cells_stay { self.old.room.cells ≤ self.new.room.cells }
         ensures units_stay { self.old.room.units ≤ self.new.room.units }
+        ensures least { OnOk result (self.new.room ≡ widened self.old.room cells units) }
         ensures err { OnErr result (self.new ≡ self.old) }
         ensures simulated { self.new.simulated ≡ self.old.simulated }
         ensures detailed { self.new.detailed ≡ self.old.detailed }
@@ -108,13 +109,7 @@ impl SimEngine for PlainEngine {
 
     ghost room = { λ e. e.room };
 
-    ghost simulated = { λ e. e.simulated };
-
-    ghost detailed = { λ e. e.detailed };
-
-    ghost runs = { λ _. None };
-
-    ghost tape = { λ _. None };
+    ghost work = { λ e. record { simulated = e.simulated; detailed = e.detailed; tape = None; runs = None } };
 
     fn ready(&mut self, cells: usize, units: usize) -> Result<(), OutOfMemory> {
         self.grow(cells, units)

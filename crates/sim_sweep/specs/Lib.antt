@@ -4,3 +4,4 @@ pub mod Filling
 pub mod Kept
 pub mod Places
 pub mod Told
+pub mod Works

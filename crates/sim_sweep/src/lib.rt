@@ -4,8 +4,8 @@
 //! simulates each demanded key whose row is not kept, once, and keeps it under the key's code. It stands on
 //! `sim_engine` for the rows and on `plan_program` for the plans. The contract that the layers above use: after
 //! `fill` each demanded code is kept with its simulated row, what was kept stays, nothing else is kept, and the
-//! engine's count rose by the number of new codes; `settle_list` answers the accepted configurations of a case by
-//! the kept rows, and the least-cost plan over them.
+//! engine simulated each new code once; `case_table` answers the accepted configurations of a case by the kept rows,
+//! and `solve_table` the least-cost plan over them.
 //!
 //! The codes, and that the rows lie in rising order of code, are this program's own. A row is found in a number
 //! of steps that grows with the logarithm of the number of rows; to keep one moves the rows of greater codes.
@@ -26,4 +26,4 @@ pub use demand::Demand;
 pub use filling::fill;
 pub use kept::Kept;
 pub use laws::{due_rows_stand, new_codes_come_once, new_runs_come_once};
-pub use settling::settle_list;
+pub use settling::{case_table, solve_table};
