@@ -1,6 +1,6 @@
 mod Best
 pub mod Forward
 mod Least
-mod OneSolution
+pub mod OneSolution
 pub mod Orders
 pub mod Ways
