@@ -15,6 +15,8 @@
 
 mod curve;
 mod kernel;
+mod laws;
 mod slices;
 
 pub use curve::Curve;
+pub use laws::loads_are_near_exact;

@@ -2,8 +2,8 @@
 -- No. 16): a base block runs all the time, and a peak block shaves the curve where its energy lasts.
 -- Blocks are in cells; hours are those of the period times the MW of a cell. That the level is a whole
 -- cell, and the least one, is this program's own.
-use Rattle.std.specs.Prelude.{ℕ, zero, suc, ◌+◌, ◌*◌, ◌<◌, ◌≤◌, nat_le, nat_lt, if◌then◌else◌}
-use Rattle.wasp_fixed.specs.Curves.{area}
+use Rattle.std.specs.Prelude.{◌≡◌, ℕ, zero, suc, ◌+◌, ◌*◌, ◌<◌, ◌≤◌, nat_le, nat_lt, if◌then◌else◌, List, length}
+use Rattle.wasp_fixed.specs.Curves.{area, cell}
 use Rattle.wasp_fixed.specs.declared.numbers.TheConstants.{ONE}
 
 -- the curve above a base block
@@ -32,3 +32,11 @@ first_enough curve peak energy hours from (suc n) =
 -- the clip level as a number, of a curve that is 0 from `top` on
 abbrev pub clip_level_of : (ℕ → ℕ) → ℕ → ℕ → ℕ → ℕ → ℕ
 clip_level_of curve peak energy hours top = first_enough curve peak energy hours 0 top
+
+-- of a list of cells it is the least level from which the block takes no more than its energy
+abbrev pub ClipLevelsAreLeast : Type 0
+ClipLevelsAreLeast = (cells : List ℕ) (peak energy hours top : ℕ) → length cells ≤ top → IsClipLevel (cell cells) peak energy hours (clip_level_of (cell cells) peak energy hours top)
+
+-- a curve has one clip level
+abbrev pub ClipLevelsAreOne : Type 0
+ClipLevelsAreOne = (curve : ℕ → ℕ) (peak energy hours one other : ℕ) → IsClipLevel curve peak energy hours one → IsClipLevel curve peak energy hours other → one ≡ other

@@ -13,7 +13,9 @@
 #![tactic(auto)]
 
 mod blocks;
+mod laws;
 #[cfg(test)]
 mod tests;
 
 pub use blocks::{clip_level, shave, shift};
+pub use laws::{clip_levels_are_least, clip_levels_are_one};

@@ -7,6 +7,7 @@ pub mod Lines
 pub mod Marks
 pub mod Orders
 pub mod Readings
+pub mod SaidVerdicts
 pub mod Sound
 pub mod Walks
 pub mod Years

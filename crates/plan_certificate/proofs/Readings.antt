@@ -1,13 +1,13 @@
 -- Lines say one certificate or have one first fault.
-use Rattle.std.proofs.Common.{◌≡◌, ◌≢◌, ◌↔◌, ℕ, zero, suc, ◌+◌, ◌-◌, ◌<◌, ◌≤◌, List, [], ◌∷◌, length, get_or, map, take, Contains, Option, Some, None, sym, ap, ◌∙◌, arith, refl, subst, ⊎_elim, inl, inr, ◌⊎◌}
+use Rattle.std.proofs.Common.{◌≡◌, ℕ, ◌-◌, ◌<◌, List, [], length, take, Contains, sym, ap, ◌∙◌, arith, subst, ⊎_elim, inl, inr}
 use Rattle.std.proofs.lemmas.Bool.{cases_eq, cases_lt}
 use Rattle.std.proofs.lemmas.List.{get_or-take, get_or_default, length-take-le}
 use Rattle.deck_lines.specs.declared.line.CertLine.{CertLine}
 use Rattle.deck_lines.specs.declared.line.CertLine.TheVariants.{Come, Chosen, Total, Infeasible}
 use Rattle.plan_program.specs.declared.solved.Outcome.{Outcome}
 use Rattle.plan_program.specs.declared.solved.Outcome.TheVariants as claims
-use Rattle.plan_certificate.specs.Certificate.{CertData, IsCertificate, Says, named_in}
-use Rattle.plan_certificate.specs.Reading.{AreInForm, HasInfeasible, HasTotal, IsClaimedBy, IsFaulty, IsFaultyAt, IsFirstFault, IsFormFault, IsMissing, IsSaidBy, ReadingsAreOne, line_at, no_line}
+use Rattle.plan_certificate.specs.Certificate.{CertData, IsCertificate, named_in}
+use Rattle.plan_certificate.specs.Reading.{AreInForm, IsClaimedBy, IsFaulty, IsFirstFault, IsFormFault, IsSaidBy, ReadingsAreOne, line_at, no_line}
 use Rattle.plan_certificate.specs.Steps.{no_name}
 use Rattle.plan_certificate.specs.declared.certificate.Named.{Named}
 use Rattle.plan_certificate.proofs.Aligned.{list_ext, names_rise, same_sorted}
@@ -91,7 +91,7 @@ total_infeasible years width lines f a b (i, bi, ei) (j, bj, ej) =
     kind (Total total) = 2
     kind (Infeasible year) = 3
 
-one_claim : (years width : ℕ) (lines : List CertLine) → AreInForm years width lines (length lines) → (a b : Outcome) → IsClaimedBy lines a → IsClaimedBy lines b → a ≡ b
+pub one_claim : (years width : ℕ) (lines : List CertLine) → AreInForm years width lines (length lines) → (a b : Outcome) → IsClaimedBy lines a → IsClaimedBy lines b → a ≡ b
 one_claim years width lines f (claims.Plan xs total) (claims.Plan ys other) a b =
     let configs : xs ≡ ys = a.0 ∙ sym b.0 in
     let totals : total ≡ other = total_total years width lines f total other a.1 b.1 in

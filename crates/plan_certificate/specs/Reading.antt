@@ -1,13 +1,15 @@
 -- The certificate that the lines of a CHECK say, or the first line that has a fault. Lines are numbered from
 -- 1 and counted here from 0. This program's own.
-use Rattle.std.specs.Prelude.{◌≡◌, ◌≢◌, ◌↔◌, ℕ, ◌+◌, ◌-◌, ◌<◌, ◌≤◌, ◌^◌, ◌⊎◌, List, [], ◌∷◌, length, take, map, All, Contains, Option, slice_index, slice_index_or}
+use Rattle.std.specs.Prelude.{◌≡◌, ◌≢◌, ◌↔◌, ℕ, ◌+◌, ◌-◌, ◌<◌, ◌≤◌, ◌⊎◌, List, [], ◌∷◌, length, take, map, All, Contains, Option, slice_index, slice_index_or}
 use Rattle.std.specs.List.{flat_map}
 use Rattle.deck_lines.specs.Grammar.{IsCertLine}
 use Rattle.deck_lines.specs.declared.line.CertLine.{CertLine}
 use Rattle.deck_lines.specs.declared.line.CertLine.TheVariants.{Come, Chosen, Total, Infeasible}
+use Rattle.cost_terms.specs.Table.{Table}
 use Rattle.plan_program.specs.declared.solved.Outcome.{Outcome}
 use Rattle.plan_program.specs.declared.solved.Outcome.TheVariants as claims
-use Rattle.plan_certificate.specs.Certificate.{CertData, IsCertificate, Says}
+use Rattle.plan_certificate.specs.Certificate.{CertData, IsCertificate, IsVerdict, Says}
+use Rattle.plan_certificate.specs.declared.judging.Verdict.{Verdict}
 
 -- what is read past the last line
 abbrev pub no_line : CertLine
@@ -111,3 +113,8 @@ pub record ReadingsAreOne : Type 0 where
   pub certificates : (years width : ℕ) (lines : List CertLine) (c d : CertData) → IsCertificate c → IsCertificate d → IsSaidBy years width lines c → IsSaidBy years width lines d → c ≡ d
   pub faults : (years width : ℕ) (lines : List CertLine) (n m : ℕ) → IsFormFault years width lines n → IsFormFault years width lines m → n ≡ m
   pub apart : (years width : ℕ) (lines : List CertLine) (n : ℕ) (c : CertData) → IsFormFault years width lines n → IsSaidBy years width lines c → ⊥
+
+-- what lines say has one verdict on a table, in whichever order the names of a year are held
+abbrev pub SaidVerdictsAreOne : Type 0
+SaidVerdictsAreOne = (t : Table) (years width : ℕ) (lines : List CertLine) (c d : CertData) (v w : Verdict) →
+    IsSaidBy years width lines c → IsSaidBy years width lines d → IsVerdict t c v → IsVerdict t d w → v ≡ w

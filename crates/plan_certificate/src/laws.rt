@@ -1,6 +1,6 @@
 //! Laws of certificates.
 ghost use Rattle.plan_certificate.specs.Certificate.{VerdictsAreOne};
-ghost use Rattle.plan_certificate.specs.Reading.{ReadingsAreOne};
+ghost use Rattle.plan_certificate.specs.Reading.{ReadingsAreOne, SaidVerdictsAreOne};
 ghost use Rattle.plan_certificate.specs.Truth.{SolutionsAreCertified, YesMeansTrue};
 
 /// A certificate has one verdict.
@@ -24,4 +24,10 @@ pub fn solutions_are_certified()
 /// A list of lines says one certificate or has one first fault, and never both.
 pub fn readings_are_one()
     ensures { ReadingsAreOne }
+{}
+
+/// Two certificates that say what a list of lines says have the same verdict on a table, though they may hold the
+/// names of a year in different orders.
+pub fn said_verdicts_are_one()
+    ensures { SaidVerdictsAreOne }
 {}

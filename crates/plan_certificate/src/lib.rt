@@ -24,5 +24,8 @@ mod tests;
 
 pub use certificate::{Certificate, Named};
 pub use judging::{Verdict, judge};
-pub use laws::{readings_are_one, solutions_are_certified, verdicts_are_one, yes_means_true};
+pub use laws::{
+    readings_are_one, said_verdicts_are_one, solutions_are_certified, verdicts_are_one,
+    yes_means_true,
+};
 pub use reading::{CertError, read_certificate};

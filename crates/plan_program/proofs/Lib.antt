@@ -1,5 +1,6 @@
 mod Best
 pub mod Forward
 mod Least
+pub mod OneSolution
 pub mod Orders
 pub mod Ways

@@ -61,3 +61,7 @@ IsOutcome t (Infeasible year) = IsInfeasible t year
 pub record IsSolution (t : Table) (s : Solved) : Type 0 where
   pub come : AreCostsToCome t s.come
   pub outcome : IsOutcome t s.outcome
+
+-- a table has one solution: the costs-to-come and the chosen plan are pinned, among equal plans by the order of choice
+abbrev pub SolutionsAreOne : Type 0
+SolutionsAreOne = (t : Table) (one other : Solved) → IsSolution t one → IsSolution t other → one ≡ other

@@ -12,11 +12,13 @@
 #![tactic(auto)]
 
 mod come;
+mod laws;
 mod solved;
 mod solving;
 #[cfg(test)]
 mod tests;
 mod trace;
 
+pub use laws::solutions_are_one;
 pub use solved::{CostToCome, Outcome, Plan, Solved};
 pub use solving::solve;
