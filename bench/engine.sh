@@ -6,8 +6,8 @@ here=$(cd "$(dirname "$0")" && pwd)
 work=$(mktemp -d)
 trap 'rm -rf "$work"' EXIT
 
-"$here/copy.sh" "$work" wasp_fixed plant_data year_system deck_lines convolution load_curves hydro_shave loading_order cost_terms deck_check sim_engine
-echo 'time_engine: plant_data year_system deck_lines deck_check sim_engine' >> "$work/crates.txt"
+"$here/copy.sh" "$work" wasp_fixed plant_data year_system deck_lines convolution load_curves hydro_shave loading_order cost_terms deck_check checked_deck sim_engine
+echo 'time_engine: plant_data year_system deck_lines checked_deck sim_engine' >> "$work/crates.txt"
 mkdir -p "$work/crates/time_engine/src" "$work/crates/time_engine/proofs/time_rows"
 cp "$here/engine.rt.txt" "$work/crates/time_engine/src/main.rt"
 cp "$here/engine_invariants.antt.txt" "$work/crates/time_engine/proofs/time_rows/Invariants.antt"

@@ -6,8 +6,7 @@ use Rattle.deck_lines.specs.declared.head.Head.TheVariants as heads
 use Rattle.deck_lines.specs.declared.statement.Statement.{Statement}
 use Rattle.deck_check.specs.DeckFault.{negative, no_case, no_load, old_form, shape_form, tunnel_high}
 use Rattle.deck_check.specs.FaultTable.{is_met}
-use Rattle.deck_check.specs.Readings.{Says, first, group_water, greatest, units_in}
-use Rattle.deck_check.specs.TypedDeck.{year_of}
+use Rattle.deck_check.specs.Readings.{Says, first, greatest, units_in}
 
 said : Head → List ℕ → Statement
 said h ns = record { head = h; body = record { name = []; numbers = ns } }
@@ -77,18 +76,3 @@ second_candidate_is_high = refl
 first_year_is_not : is_met (tunnel_high tunnels) 1 1 2 ≡ false
 unfolding said tunnels first
 first_year_is_not = refl
-
--- year 3 has the tunnel of year 1, and year 5 that of year 4
-tunnel_of_year_3 : year_of tunnels (heads.Tunnel 1) 3 ≡ 1
-unfolding said tunnels
-tunnel_of_year_3 = refl
-
-tunnel_of_year_5 : year_of tunnels (heads.Tunnel 1) 5 ≡ 4
-unfolding said tunnels
-tunnel_of_year_5 = refl
-
--- by project and then by period
-water_of_a_group : group_water (body_of (said heads.Periods (2 ∷ []) ∷ said (heads.Hydro 1) (1 ∷ 1 ∷ []) ∷ said (heads.Water 1 1 2) (4 ∷ 5 ∷ 6 ∷ []) ∷ said (heads.Water 1 2 1) (7 ∷ 8 ∷ 9 ∷ []) ∷ [])) 1
-    ≡ record { base = 0; peak = 0; energy = 0 } ∷ record { base = 4; peak = 5; energy = 6 } ∷ record { base = 7; peak = 8; energy = 9 } ∷ record { base = 0; peak = 0; energy = 0 } ∷ []
-unfolding said first
-water_of_a_group = refl

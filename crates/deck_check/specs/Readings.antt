@@ -1,20 +1,14 @@
 -- What a deck says of each head, and what that means: years, periods, weights, the units of a plant with
--- additions and retirements, the data of plants, loads and hydro groups, the candidates. After FIXSYS and
--- VARSYS of the IAEA's Computer Manual Series No. 16; the defaults are this program's own.
-use Rattle.std.specs.Prelude.{ℕ, ◌+◌, ◌-◌, ◌*◌, ◌/◌, nat_le, nat_lt, Bool, not, List, [], ◌∷◌, ◌++◌, length, map, filter, sum, slice_index, codes, Option, None, Some, is_some, if◌then◌else◌}
-use Rattle.std.specs.List.{range_with_len, flat_map}
-use Rattle.std.specs.Str.{bytes_eq}
+-- additions and retirements, the candidates and their greatest counts, the loads, and what a year can take.
+-- After FIXSYS and VARSYS of the IAEA's Computer Manual Series No. 16; the defaults are this program's own.
+use Rattle.std.specs.Prelude.{ℕ, ◌+◌, ◌-◌, ◌*◌, ◌/◌, nat_le, Bool, not, List, [], ◌∷◌, ◌++◌, length, map, filter, sum, slice_index, Option, None, Some, is_some, if◌then◌else◌}
+use Rattle.std.specs.List.{range_with_len}
 use Rattle.deck_lines.specs.Body.{BodyParts}
 use Rattle.deck_lines.specs.declared.head.Head.{Head}
 use Rattle.deck_lines.specs.declared.head.Head.TheVariants as heads
-use Rattle.plant_data.specs.declared.plant.Plant.{Plant}
-use Rattle.plant_data.specs.declared.plant.Rule.{Rule}
-use Rattle.plant_data.specs.declared.plant.Rule.TheVariants.{Merit, BaseFirst}
 use Rattle.plant_data.specs.declared.shape.Load.{Load}
 use Rattle.plant_data.specs.declared.shape.Point.{Point}
-use Rattle.plant_data.specs.declared.water.Group.{Group}
-use Rattle.plant_data.specs.declared.water.Water.{Water}
-use Rattle.year_system.specs.System.{System, greatest_peak}
+use Rattle.year_system.specs.System.{greatest_peak}
 
 -- a deck as a map from heads to bodies
 abbrev pub Says : Type 0
@@ -29,10 +23,6 @@ is_absent d h = not (is_there d h)
 abbrev pub numbers_in : Option BodyParts → List ℕ
 numbers_in None = []
 numbers_in (Some body) = body.numbers
-
-abbrev pub name_in : Option BodyParts → List ℕ
-name_in None = []
-name_in (Some body) = body.name
 
 -- the numbers of a statement, none where it is absent
 abbrev pub numbers : Says → Head → List ℕ
@@ -72,9 +62,6 @@ step d = number_or d heads.Grid 1
 abbrev pub weights : Says → List ℕ
 weights d = if is_there d heads.Conditions then numbers d heads.Conditions else 10_000 ∷ []
 
-abbrev pub rule : Says → Rule
-rule d = if bytes_eq (name_in (d heads.Rule)) (codes "BASE") then BaseFirst else Merit
-
 -- ---- plants: 1 to 40 are the PLANT statements, and 41 to 52 the thermal candidates
 
 abbrev pub plant_head : ℕ → Head
@@ -89,23 +76,6 @@ full d a = number d (plant_head a) 2
 abbrev pub fuel : Says → ℕ → ℕ
 fuel d a = number d (plant_head a) 5
 
--- the plant of a number, with so many units and the prices of its fuel
-abbrev pub plant_of : Says → ℕ → ℕ → Plant
-plant_of d a units =
-    record {
-      number = a;
-      units = units;
-      least = least d a;
-      full = full d a;
-      heat = number d (plant_head a) 3;
-      inc = number d (plant_head a) 4;
-      domestic = number d (heads.Fuel (fuel d a)) 0;
-      foreign = number d (heads.Fuel (fuel d a)) 1;
-      variable = number d (plant_head a) 7;
-      outage = number d (plant_head a) 8;
-      repair = number d (plant_head a) 9;
-    }
-
 -- the units of a plant that stand or come up to a year, that year's included
 abbrev pub come : Says → ℕ → ℕ → ℕ
 come d p t = number d (heads.Plant p) 0 + sum (map (λ u. number d (heads.Add p u) 0) (first t))
@@ -118,11 +88,7 @@ gone d p t = sum (map (λ u. number d (heads.Retire p u) 0) (first t))
 abbrev pub units_in : Says → ℕ → ℕ → ℕ
 units_in d p t = come d p t - gone d p t
 
--- the plants with at least one unit in a year
-abbrev pub existing_in : Says → ℕ → List Plant
-existing_in d t = filter (λ p. nat_lt 0 p.units) (map (λ p. plant_of d p (units_in d p t)) (first 40))
-
--- ---- candidates, whose units and projects are their greatest counts
+-- ---- candidates
 
 -- the numbers of the thermal candidates and of the hydro groups
 abbrev pub thermal_numbers : Says → List ℕ
@@ -130,9 +96,6 @@ thermal_numbers d = filter (λ k. is_there d (heads.Thermal k)) (first 12)
 
 abbrev pub group_numbers : Says → List ℕ
 group_numbers d = filter (λ g. is_there d (heads.Hydro g)) (first 2)
-
-abbrev pub thermal : Says → List Plant
-thermal d = map (λ k. plant_of d (40 + k) (number d (heads.Thermal k) 0)) (thermal_numbers d)
 
 -- the greatest counts of the candidates, thermal candidates first
 abbrev pub greatest : Says → List ℕ
@@ -146,24 +109,6 @@ width d = length (greatest d)
 -- the projects of a group, those that stand and those that can be built
 abbrev pub projects : Says → ℕ → ℕ
 projects d g = number d (heads.Hydro g) 0 + number d (heads.Hydro g) 1
-
--- what stands in triple i of a WATER statement, counted from 0
-abbrev pub water_in : List ℕ → ℕ → Water
-water_in ns i = record { base = slice_index ns (3 * i); peak = slice_index ns (3 * i + 1); energy = slice_index ns (3 * i + 2) }
-
--- the water of a project in a period, under each condition
-abbrev pub project_water : Says → ℕ → ℕ → ℕ → List Water
-project_water d g j m = map (water_in (numbers d (heads.Water g j m))) (range_with_len 0 (length (weights d)))
-
--- by project, period and condition
-abbrev pub group_water : Says → ℕ → List Water
-group_water d g = flat_map (λ j. flat_map (project_water d g j) (first (periods d))) (first (projects d g))
-
-abbrev pub group_of : Says → ℕ → Group
-group_of d g = record { number = g; existing = number d (heads.Hydro g) 0; greatest = number d (heads.Hydro g) 1; water = group_water d g }
-
-abbrev pub groups : Says → List Group
-groups d = map (group_of d) (group_numbers d)
 
 -- ---- loads
 
@@ -194,16 +139,3 @@ capacity d t = sum (map (λ p. units_in d p t * full d p) (first 40)) + sum (map
 -- the greatest peak of a year in MW
 abbrev pub peak : Says → ℕ → ℕ
 peak d t = greatest_peak (loads d t)
-
--- the physical system of a year
-abbrev pub system : Says → ℕ → System
-system d t =
-    record {
-      rule = rule d;
-      loads = loads d t;
-      weights = weights d;
-      existing = existing_in d t;
-      thermal = thermal d;
-      groups = groups d;
-      step = step d;
-    }

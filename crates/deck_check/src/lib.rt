@@ -1,21 +1,17 @@
-//! The fault table of a deck, and what a deck without a fault says: systems, costs, tunnels, margins,
-//! limits and names.
+//! The fault table of a deck: its first fault, and the readings of statements that the table needs.
 //!
 //! FIXSYS and VARSYS of the IAEA's Computer Manual Series No. 16 read the existing and the candidate
-//! plants; this crate reads them, with loads and cases, from a deck's statements. It stands on `deck_lines`,
-//! `year_system`, `cost_terms` and `load_curves`. The contract that the layers above use: `check` refuses
-//! exactly with the first row of the table that the deck meets and its least numbers, and each reading of a
-//! `TypedDeck` is what its definition says of the deck, with every condition of the calls that take it.
+//! plants; this crate reads them, with loads and cases, from a deck's statements, and says where they do not
+//! fit together. It stands on `deck_lines` and, for greatest peaks and numbers of configurations, on
+//! `year_system`. The contract that the layers above use: `first_fault` answers exactly the first row of the
+//! table that the deck meets, with its least numbers; a deck has one fault at most; and each reading is what
+//! its definition says of the deck, within the range of its form.
 //!
 //! The table and the defaults are this program's own. Limits: 30 years, 8 cases, 14 candidates.
 #![tactic(auto)]
 
 mod candidates;
-mod cases;
-mod economy;
 mod fault;
-mod names;
-mod parts;
 mod plants;
 mod readings;
 mod rows;
@@ -24,9 +20,13 @@ mod spans;
 mod table;
 #[cfg(test)]
 mod tests;
-mod typed;
 
-pub use fault::{CheckError, DeckFault};
-pub use names::{Name, PlantId};
-pub use search::{faults_are_met, faults_are_single};
-pub use typed::{TypedDeck, check};
+pub use candidates::width;
+pub use fault::DeckFault;
+pub use plants::{
+    GROUPS, PLANTS, THERMAL, fuel, full, greatest_units, least, plant_number, projects, units_in,
+};
+pub use readings::{
+    cases, is_there, number, number_at, numbers, periods, step, version, weights, years,
+};
+pub use search::{faults_are_met, faults_are_single, first_fault};

@@ -2,7 +2,7 @@
 use Rattle.std.proofs.Common.{◌≡◌, [], ◌∷◌, ◌++◌, None, Some, refl}
 use Rattle.std.specs.Fmt.{digits}
 use Rattle.std.specs.Prelude.{codes}
-use Rattle.deck_check.specs.declared.names.PlantId.TheVariants as ids
+use Rattle.checked_deck.specs.declared.names.PlantId.TheVariants as ids
 use Rattle.deck_lines.specs.declared.fault.LineKind.TheVariants as kinds
 use Rattle.plan_certificate.specs.declared.judging.Verdict.TheVariants.{No, Yes}
 use Rattle.plant_data.specs.declared.row.Row.{Row}

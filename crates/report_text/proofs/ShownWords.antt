@@ -7,8 +7,8 @@ use Rattle.std.proofs.lemmas.List.{length-append, length-map}
 use Rattle.std.proofs.lemmas.List.Elements.{All-head, All-tail}
 use Rattle.std.proofs.lemmas.List.Folds.{list_all-append}
 use Rattle.plant_data.specs.declared.row.Tunnel.{Tunnel}
-use Rattle.deck_check.specs.declared.names.PlantId.{PlantId}
-use Rattle.deck_check.specs.declared.names.PlantId.TheVariants as ids
+use Rattle.checked_deck.specs.declared.names.PlantId.{PlantId}
+use Rattle.checked_deck.specs.declared.names.PlantId.TheVariants as ids
 use Rattle.deck_lines.specs.declared.line_word.LineWord.TheVariants as words
 use Rattle.deck_lines.proofs.Texts.{is_plain}
 use Rattle.report_text.specs.Marks.{mark, mark_at, marks}

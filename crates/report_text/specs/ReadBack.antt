@@ -4,8 +4,8 @@ use Rattle.std.specs.Prelude.{◌≡◌, ◌≢◌, ◌<◌, ◌≤◌, ◌^◌,
 use Rattle.std.specs.List.{flat_map}
 use Rattle.cost_terms.specs.CostData.{greatest}
 use Rattle.cost_terms.specs.Table.{IsTable}
-use Rattle.deck_check.specs.declared.names.PlantId.{PlantId}
-use Rattle.deck_check.specs.declared.names.PlantId.TheVariants as ids
+use Rattle.checked_deck.specs.declared.names.PlantId.{PlantId}
+use Rattle.checked_deck.specs.declared.names.PlantId.TheVariants as ids
 use Rattle.deck_lines.specs.Grammar.{line_of}
 use Rattle.deck_lines.specs.declared.line.CertLine.{CertLine}
 use Rattle.deck_lines.specs.declared.line.Line.{Line}

@@ -7,8 +7,8 @@ use Rattle.cost_terms.specs.Table.{Table}
 use Rattle.cost_terms.specs.declared.entries.Scored.{Scored}
 use Rattle.cost_terms.specs.declared.terms.Built.{Built}
 use Rattle.cost_terms.specs.declared.terms.Ran.{Ran}
-use Rattle.deck_check.specs.declared.names.PlantId.{PlantId}
-use Rattle.deck_check.specs.declared.names.PlantId.TheVariants as ids
+use Rattle.checked_deck.specs.declared.names.PlantId.{PlantId}
+use Rattle.checked_deck.specs.declared.names.PlantId.TheVariants as ids
 use Rattle.plan_program.specs.Chosen.{IsSolution}
 use Rattle.plan_program.specs.Plans.{entry_at, layer_at}
 use Rattle.plan_program.specs.declared.solved.Outcome.{Outcome}

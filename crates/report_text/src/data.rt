@@ -1,6 +1,6 @@
 //! What a report is made of.
+use checked_deck::{Name, PlantId};
 use cost_terms::{Built, CaseTable, Ran};
-use deck_check::{Name, PlantId};
 use plan_program::Solved;
 use plant_data::{Config, Listed, Row, Tunnel};
 

@@ -2,9 +2,9 @@
 //!
 //! REPROBAT of the IAEA's Computer Manual Series No. 16 reports the optimum; this crate writes it as lines,
 //! with the costs-to-come of all accepted configurations, by which a plan can be checked. It stands on
-//! `plan_program` for the solved case, `cost_terms` for the terms of a year's cost, `deck_check` for names
-//! and faults, `deck_lines` for line faults, and `plan_certificate` for verdicts. The contract that the layers
-//! above use: each writer appends exactly the text that `specs` defines of its arguments, and after want of memory
+//! `plan_program` for the solved case, `cost_terms` for the terms of a year's cost, `checked_deck` for names,
+//! `deck_check` for faults, `deck_lines` for line faults, and `plan_certificate` for verdicts. The contract that the
+//! layers above use: each writer appends exactly the text that `specs` defines of its arguments, and after want of memory
 //! the text is as before. A law says that the text of a report, read as a certificate, says what was solved.
 //!
 //! The lines are this program's own. Money is in dollars of present worth at the beginning of year 1, energy

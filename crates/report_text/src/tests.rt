@@ -12,10 +12,11 @@ use crate::{
     CaseReport, Generation, Judged, PlanYear, Refusal, write_case, write_heading, write_keys,
     write_malformed, write_refusal, write_verdict,
 };
+use checked_deck::{Name, PlantId};
 use cost_terms::{
     Built, CaseTable, CostData, Economy, Layer, Ran, Rates, Scored, ShortagePrice, ThermalCost,
 };
-use deck_check::{DeckFault, Name, PlantId};
+use deck_check::DeckFault;
 use deck_lines::{LineFault, LineKind};
 use plan_certificate::Verdict;
 use plan_program::{Outcome, solve};

@@ -6,8 +6,8 @@ ghost use Rattle.report_text.specs.Report.{HasWidths, chosen_line, edge_line, ge
 
 use crate::data::{Generation, PlanYear};
 use crate::numbers::{push_counts, push_numbers};
+use checked_deck::PlantId;
 use cost_terms::{Built, Ran};
-use deck_check::PlantId;
 use plant_data::{Config, MAX_COUNT, Row, Tunnel};
 use wasp_fixed::OutOfMemory;
 

@@ -1,5 +1,5 @@
 use crate::{CommandWords, Status, run};
-use deck_check::check;
+use checked_deck::check;
 use deck_lines::{Deck, Line, Mode, read_line};
 use plant_data::Config;
 use sim_engine::{PlainEngine, SimEngine, TapeEngine};

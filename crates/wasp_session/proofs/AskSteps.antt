@@ -6,7 +6,8 @@ use Rattle.std.proofs.lemmas.List.Elements.{All-append, All-cons, All-contains, 
 use Rattle.std.proofs.lemmas.Option.{same_Some, slice_get_within}
 use Rattle.std.proofs.lemmas.Slice.Zip.{length-zip}
 use Rattle.board_core.specs.declared.row.KeptRow.{KeptRow}
-use Rattle.deck_check.specs.Readings.{Says, cases, system, years}
+use Rattle.checked_deck.specs.Systems.{system}
+use Rattle.deck_check.specs.Readings.{Says, cases, years}
 use Rattle.sim_engine.specs.Engine.{Room, Run}
 use Rattle.sim_sweep.specs.Demands.{HasRoomFor, IsDemand, first_demands, new_demands, run_in}
 use Rattle.sim_sweep.specs.Kept.{words_in}

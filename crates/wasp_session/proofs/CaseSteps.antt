@@ -4,7 +4,8 @@ use Rattle.std.specs.List.{filter_map, range_with_len}
 use Rattle.std.proofs.lemmas.List.{length-append, length-map}
 use Rattle.std.proofs.lemmas.List.Elements.{filter_map-append}
 use Rattle.std.proofs.lemmas.List.FromFn.{length-map-range_with_len}
-use Rattle.deck_check.specs.Readings.{Says, system}
+use Rattle.checked_deck.specs.Systems.{system}
+use Rattle.deck_check.specs.Readings.{Says}
 use Rattle.plant_data.specs.declared.plant.Plant.{Plant}
 use Rattle.sim_engine.specs.Generation.{generations, group_generation, plant_generation}
 use Rattle.year_system.specs.System.{System}

@@ -1,8 +1,9 @@
 -- What is told of a deck: its refusal, or the reports of its cases.
 use Rattle.std.proofs.Common.{◌≡◌, ap, refl, ℕ, inl, inr, List, ◌++◌, length, arith}
 use Rattle.deck_check.specs.DeckFault.{FaultsAreMet, HasNoFault, IsFaultOf}
-use Rattle.deck_check.specs.Readings.{Says, cases, system}
-use Rattle.deck_check.specs.TypedDeck.{margin, tunnel}
+use Rattle.checked_deck.specs.Systems.{system}
+use Rattle.deck_check.specs.Readings.{Says, cases}
+use Rattle.checked_deck.specs.TypedDeck.{margin, tunnel}
 use Rattle.deck_check.specs.declared.fault.DeckFault.{DeckFault}
 use Rattle.report_text.specs.Lines.{heading}
 use Rattle.report_text.specs.Refusals.{refusal_line}

@@ -5,8 +5,9 @@ use Rattle.std.proofs.lemmas.List.{append_assoc, length-append, take_all, take_m
 use Rattle.std.proofs.lemmas.List.Elements.{All-append, All-cons, All-contains_itself, All-nil, All-weaker}
 use Rattle.std.proofs.lemmas.Option.{get_or_from_slice_get, same_Some, slice_get_within}
 use Rattle.deck_check.specs.Readings as says
-use Rattle.deck_check.specs.Readings.{Says, system}
-use Rattle.deck_check.specs.TypedDeck.{margin, tunnel}
+use Rattle.checked_deck.specs.Systems.{system}
+use Rattle.deck_check.specs.Readings.{Says}
+use Rattle.checked_deck.specs.TypedDeck.{margin, tunnel}
 use Rattle.plant_data.specs.Tunnels.{IsTunnelOf}
 use Rattle.plant_data.specs.declared.row.Margin.{Margin}
 use Rattle.plant_data.specs.declared.row.Tunnel.{Tunnel}

@@ -6,8 +6,9 @@ use Rattle.cost_terms.specs.Cost.{nothing_built}
 use Rattle.cost_terms.specs.Table.{IsEntry, IsTable, Table}
 use Rattle.cost_terms.specs.declared.entries.Scored.{Scored}
 use Rattle.cost_terms.specs.CostData.{greatest}
-use Rattle.deck_check.specs.Readings.{Says, system, years}
-use Rattle.deck_check.specs.TypedDeck.{limit}
+use Rattle.checked_deck.specs.Systems.{system}
+use Rattle.deck_check.specs.Readings.{Says, years}
+use Rattle.checked_deck.specs.TypedDeck.{limit}
 use Rattle.plan_program.specs.Chosen.{IsPlanOf}
 use Rattle.plan_program.specs.Plans.{configs, entry_at, layer_at, no_entry}
 use Rattle.plant_data.specs.Configs.{IsAtMost}

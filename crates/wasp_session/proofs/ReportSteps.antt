@@ -3,8 +3,9 @@ use Rattle.std.proofs.Common.{◌≡◌, ◌∙◌, ap, sym, subst, ℕ, ◌<◌
 use Rattle.std.proofs.lemmas.Option.{get_or_from_slice_get, same_Some, slice_get_within}
 use Rattle.cost_terms.specs.Cost.{nothing_built}
 use Rattle.cost_terms.specs.Table.{Table}
-use Rattle.deck_check.specs.Economy.{costs}
-use Rattle.deck_check.specs.Readings.{Says, system, years}
+use Rattle.checked_deck.specs.Economy.{costs}
+use Rattle.checked_deck.specs.Systems.{system}
+use Rattle.deck_check.specs.Readings.{Says, years}
 use Rattle.deck_check.specs.Readings as says
 use Rattle.plan_program.specs.Chosen.{IsSolution}
 use Rattle.plan_program.specs.declared.solved.Solved.{Solved}

@@ -15,10 +15,11 @@ use Rattle.cost_terms.specs.CostData as economy
 use Rattle.cost_terms.specs.Table.{Table}
 use Rattle.cost_terms.specs.declared.entries.Scored.{Scored}
 use Rattle.cost_terms.specs.declared.prices.CostData.{CostData}
-use Rattle.deck_check.specs.Economy.{costs}
+use Rattle.checked_deck.specs.Economy.{costs}
 use Rattle.deck_check.specs.Readings as says
-use Rattle.deck_check.specs.Readings.{Says, system, years}
-use Rattle.deck_check.specs.TypedDeck.{limit}
+use Rattle.checked_deck.specs.Systems.{system}
+use Rattle.deck_check.specs.Readings.{Says, years}
+use Rattle.checked_deck.specs.TypedDeck.{limit}
 use Rattle.plan_program.specs.Plans.{layer_at}
 use Rattle.plant_data.specs.Rows.{IsRow}
 use Rattle.plant_data.specs.declared.row.Limit.{Limit}

@@ -7,7 +7,8 @@ use Rattle.cost_terms.specs.Table.{Table}
 use Rattle.cost_terms.specs.declared.entries.Scored.{Scored}
 use Rattle.cost_terms.specs.declared.prices.CostData.{CostData}
 use Rattle.deck_check.specs.Readings as says
-use Rattle.deck_check.specs.Readings.{Says, system, years}
+use Rattle.checked_deck.specs.Systems.{system}
+use Rattle.deck_check.specs.Readings.{Says, years}
 use Rattle.plan_program.specs.Chosen.{IsPlanOf}
 use Rattle.plan_program.specs.Plans.{layer_at}
 use Rattle.plant_data.specs.Configs.{IsAtMost}

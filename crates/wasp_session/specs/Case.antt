@@ -10,11 +10,12 @@ use Rattle.cost_terms.specs.declared.prices.CostData.{CostData}
 use Rattle.cost_terms.specs.declared.terms.Built.{Built}
 use Rattle.cost_terms.specs.declared.terms.Ran.{Ran}
 use Rattle.cost_terms.specs.Table.{Table}
-use Rattle.deck_check.specs.Economy.{costs}
-use Rattle.deck_check.specs.Readings.{Says, greatest, system, version, weights, years}
-use Rattle.deck_check.specs.TypedDeck.{limit, name_of, tunnel}
-use Rattle.deck_check.specs.declared.names.PlantId.{PlantId}
-use Rattle.deck_check.specs.declared.names.PlantId.TheVariants as ids
+use Rattle.checked_deck.specs.Economy.{costs}
+use Rattle.checked_deck.specs.Systems.{system}
+use Rattle.deck_check.specs.Readings.{Says, greatest, version, weights, years}
+use Rattle.checked_deck.specs.TypedDeck.{limit, name_of, tunnel}
+use Rattle.checked_deck.specs.declared.names.PlantId.{PlantId}
+use Rattle.checked_deck.specs.declared.names.PlantId.TheVariants as ids
 use Rattle.plan_program.specs.Chosen.{IsSolution}
 use Rattle.plan_program.specs.Plans.{layer_at}
 use Rattle.plant_data.specs.declared.plant.Plant.{Plant}

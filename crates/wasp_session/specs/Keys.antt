@@ -4,7 +4,8 @@
 -- was edited between two lines, since the key has all the data of its year. This program's own.
 use Rattle.std.specs.Prelude.{◌≡◌, ◌≢◌, ℕ, ◌⊎◌, ◌↔◌, List, [], ◌∷◌, ◌++◌, Contains, AllPairs, Option, None, Some, length}
 use Rattle.deck_check.specs.DeckFault.{HasNoFault}
-use Rattle.deck_check.specs.Readings.{Says, system}
+use Rattle.checked_deck.specs.Systems.{system}
+use Rattle.deck_check.specs.Readings.{Says}
 use Rattle.deck_lines.specs.Deck.{deck_at}
 use Rattle.deck_lines.specs.declared.line.Line.{Line}
 use Rattle.deck_lines.specs.declared.line.Line.TheVariants as lines

@@ -3,8 +3,9 @@
 -- IAEA's Computer Manual Series No. 16; the limits and their order are this program's own.
 use Rattle.std.specs.Prelude.{◌≡◌, ℕ, ◌<◌, ◌≤◌, ◌⊎◌, List, length}
 use Rattle.deck_check.specs.DeckFault.{HasNoFault, IsFaultOf}
-use Rattle.deck_check.specs.Readings.{Says, cases, system, years}
-use Rattle.deck_check.specs.TypedDeck.{margin, tunnel}
+use Rattle.checked_deck.specs.Systems.{system}
+use Rattle.deck_check.specs.Readings.{Says, cases, years}
+use Rattle.checked_deck.specs.TypedDeck.{margin, tunnel}
 use Rattle.report_text.specs.declared.refusals.Refusal.{Refusal}
 use Rattle.report_text.specs.declared.refusals.Refusal.TheVariants.{Deck, Wide, Many}
 use Rattle.tunnel_configs.specs.Listed.{HasListing, IsListed, IsListing, box_size}

@@ -3,8 +3,9 @@
 use Rattle.std.specs.Prelude.{◌≡◌, ◌≢◌, ℕ, ◌+◌, ◌-◌, ◌^◌, ◌<◌, ◌≤◌, ◌⊎◌, AllPairs, Contains, List, [], ◌++◌, length, map, Option, None, Some, slice_get, slice_index, All}
 use Rattle.std.specs.List.{flat_map, zip}
 use Rattle.deck_check.specs.Readings as says
-use Rattle.deck_check.specs.Readings.{Says, cases, system, years}
-use Rattle.deck_check.specs.TypedDeck.{limit}
+use Rattle.checked_deck.specs.Systems.{system}
+use Rattle.deck_check.specs.Readings.{Says, cases, years}
+use Rattle.checked_deck.specs.TypedDeck.{limit}
 use Rattle.plant_data.specs.declared.row.Limit.{Limit}
 use Rattle.sim_sweep.specs.declared.demand.Demand.{Demand}
 use Rattle.cost_terms.specs.declared.entries.Scored.{Scored}

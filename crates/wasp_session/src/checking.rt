@@ -19,7 +19,8 @@ use crate::interning::{intern_all, room_for};
 use crate::listing::{ListError, list_case, systems_of};
 use crate::opened::OpenCheck;
 use crate::settling::settle_case;
-use deck_check::{CheckError, TypedDeck, check, faults_are_met};
+use checked_deck::{CheckError, TypedDeck, check};
+use deck_check::faults_are_met;
 use deck_lines::Deck;
 use plan_certificate::{
     CertError, Certificate, Verdict, judge, read_certificate, readings_are_one,

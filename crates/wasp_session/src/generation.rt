@@ -1,6 +1,7 @@
 //! What the plants, candidates and groups of a planned year generate.
 ghost use Rattle.std.specs.Prelude.{◌≡◌, ℕ, ◌+◌, ◌-◌, ◌^◌, ◌<◌, ◌≤◌, ◌++◌, [], ◌∷◌, All, List, length, IfOk, OnOk, slice_index};
 ghost use Rattle.std.specs.List.{filter_map, range_with_len};
+ghost use Rattle.checked_deck.specs.Systems as systems;
 ghost use Rattle.deck_check.specs.Readings as says;
 ghost use Rattle.deck_lines.specs.Deck.{body_of};
 ghost use Rattle.report_text.specs.ReadBack.{IsPrintableGeneration};
@@ -8,7 +9,7 @@ ghost use Rattle.sim_engine.specs.Generation.{generations};
 ghost use Rattle.wasp_session.specs.Case.{generation_at, generation_of, generations_of, generator_at, standing_at};
 ghost use Rattle.year_system.specs.System.{Fits, cells, unit_limit};
 
-use deck_check::{PlantId, TypedDeck};
+use checked_deck::{PlantId, TypedDeck};
 use plant_data::{Config, Listed};
 use report_text::{Generation, Generations};
 use sim_engine::SimEngine;
@@ -97,7 +98,7 @@ pub(crate) fn year_generations<E: SimEngine>(
     config: &Config,
     engine: &mut E,
 ) -> Result<Generations, OutOfMemory>
-    requires system { system.now ≡ says.system (body_of typed.now) year }
+    requires system { system.now ≡ systems.system (body_of typed.now) year }
     requires fits { Fits system.now config.now }
     requires cells { cells system.now ≤ (E.room engine.old).cells }
     requires units { unit_limit system.now ≤ (E.room engine.old).units }

@@ -3,7 +3,7 @@
 //! A PLAN goes through the modules of the IAEA's Computer Manual Series No. 16 in their order: the fault table,
 //! CONGEN for each case and year, MERSIM for the keys that are new, DYNPRO for each case, REPROBAT for its report.
 //! A CHECK goes the same way for its one case, and judges a certificate where a PLAN solves and reports. It stands
-//! on `deck_check`, `tunnel_configs`, `sim_sweep`, `plan_certificate` and `report_text`. The contract that the
+//! on `checked_deck`, `tunnel_configs`, `sim_sweep`, `plan_certificate` and `report_text`. The contract that the
 //! layers above use: a session that has gone through lines tells of the next one exactly what `specs` defines of
 //! the lines, and keeps the row of each key that they demand, each simulated once.
 //!

@@ -6,7 +6,7 @@ ghost use Rattle.report_text.specs.declared.refusals.Refusal.{Refusal as Refused
 ghost use Rattle.wasp_session.specs.Listings.{IsFirstOver, IsOf, IsOver, IsOverIn};
 ghost use Rattle.wasp_session.specs.Steps.{AreCaseLists, AreSystems, AreYearLists, IsYearList, IsYearSystem};
 
-use deck_check::TypedDeck;
+use checked_deck::TypedDeck;
 use plant_data::{Config, Listed};
 use report_text::Refusal;
 use std::alloc::Global;

@@ -3,7 +3,7 @@ ghost use Rattle.std.specs.Prelude.{◌≡◌, ℕ, ◌+◌, ◌-◌, ◌^◌, �
 ghost use Rattle.cost_terms.specs.Cost.{nothing_built};
 ghost use Rattle.cost_terms.specs.CostData.{Fits, greatest as candidate_counts};
 ghost use Rattle.cost_terms.specs.Table.{IsEntry};
-ghost use Rattle.deck_check.specs.Economy.{costs};
+ghost use Rattle.checked_deck.specs.Economy.{costs};
 ghost use Rattle.deck_check.specs.Readings as says;
 ghost use Rattle.deck_lines.specs.Deck.{body_of};
 ghost use Rattle.plan_program.specs.Chosen.{IsPlanOf};
@@ -16,8 +16,8 @@ ghost use Rattle.wasp_session.specs.Listings.{IsOf};
 ghost use Rattle.wasp_session.specs.Steps.{HasPlace, HasRoom, HasYearRoom, HasYears, IsPlaced, IsYearSystem};
 
 use crate::generation::year_generations;
+use checked_deck::TypedDeck;
 use cost_terms::{CaseTable, Economy, Scored, build_cost, run_cost};
-use deck_check::TypedDeck;
 use plant_data::{Config, Listed};
 use report_text::PlanYear;
 use sim_engine::SimEngine;

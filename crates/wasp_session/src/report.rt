@@ -3,7 +3,7 @@ ghost use Rattle.std.specs.Prelude.{◌≡◌, ◌+◌, ◌-◌, ◌^◌, ◌<�
 ghost use Rattle.cost_terms.specs.Cost.{nothing_built};
 ghost use Rattle.cost_terms.specs.CostData.{greatest as candidate_counts};
 ghost use Rattle.cost_terms.specs.Table.{IsTable};
-ghost use Rattle.deck_check.specs.Economy.{costs};
+ghost use Rattle.checked_deck.specs.Economy.{costs};
 ghost use Rattle.deck_check.specs.Readings as says;
 ghost use Rattle.deck_lines.specs.Deck.{body_of};
 ghost use Rattle.plan_program.specs.Chosen.{IsOutcome, IsSolution};
@@ -14,8 +14,8 @@ ghost use Rattle.wasp_session.specs.Steps.{HasYearRoom, HasYears};
 ghost use Rattle.year_system.specs.System.{greatest};
 
 use crate::planned::plan_years;
+use checked_deck::TypedDeck;
 use cost_terms::{CaseTable, Economy};
-use deck_check::TypedDeck;
 use plan_program::Outcome;
 use plant_data::{Config, Listed};
 use report_text::{CaseReport, PlanYear};

@@ -11,7 +11,7 @@ ghost use Rattle.wasp_session.specs.Steps as spec;
 ghost use Rattle.wasp_session.specs.Steps.{AreLimits, AreYearLists, HasYears};
 
 use crate::demands::case_demands;
-use deck_check::TypedDeck;
+use checked_deck::TypedDeck;
 use plant_data::{Config, Limit, Listed};
 use sim_sweep::{CaseDone, CaseJob, Kept, settle_list};
 use std::alloc::Global;

@@ -5,7 +5,7 @@ ghost use Rattle.wasp_session.specs.Steps.{IfBoth};
 
 use crate::listing::systems_of;
 use crate::{Command, Session, Step};
-use deck_check::check;
+use checked_deck::check;
 use deck_lines::{Deck, Line, Mode, read_line};
 use sim_engine::{PlainEngine, Run, SimEngine, TapeEngine};
 use std::alloc::Global;

@@ -1,6 +1,6 @@
 use Rattle.std.proofs.Common.{◌≡◌, ◌∙◌, ap, ◌++◌, [], ◌∷◌, ℕ, Option, get_or}
 use Rattle.std.specs.List.{filter_map}
-use Rattle.deck_check.specs.declared.names.PlantId.{PlantId}
+use Rattle.checked_deck.specs.declared.names.PlantId.{PlantId}
 use Rattle.deck_lines.specs.Deck.{body_of}
 use Rattle.report_text.specs.declared.data.Generation.{Generation}
 use Rattle.wasp_session.specs.Case.{generation_at, generation_of, generator_at}

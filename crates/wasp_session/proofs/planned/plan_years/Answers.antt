@@ -4,7 +4,7 @@ use Rattle.cost_terms.specs.Cost.{nothing_built}
 use Rattle.cost_terms.specs.CostData.{Fits}
 use Rattle.cost_terms.specs.Table.{IsEntry}
 use Rattle.cost_terms.specs.declared.prices.CostData.{CostData}
-use Rattle.deck_check.specs.Economy.{costs}
+use Rattle.checked_deck.specs.Economy.{costs}
 use Rattle.deck_check.specs.Readings.{greatest, years}
 use Rattle.deck_lines.specs.Deck.{body_of}
 use Rattle.plant_data.specs.Configs.{IsAtMost}

@@ -1,7 +1,7 @@
 use Rattle.std.proofs.Common.{◌≡◌, ◌+◌, ◌≤◌, All, map, take}
 use Rattle.cost_terms.specs.Cost.{nothing_built}
 use Rattle.cost_terms.specs.CostData.{Fits}
-use Rattle.deck_check.specs.Economy.{costs}
+use Rattle.checked_deck.specs.Economy.{costs}
 use Rattle.deck_check.specs.Readings.{greatest}
 use Rattle.deck_lines.specs.Deck.{body_of}
 use Rattle.report_text.specs.ReadBack.{IsPrintableYear}

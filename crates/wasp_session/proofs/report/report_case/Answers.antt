@@ -1,6 +1,6 @@
 use Rattle.std.proofs.Common.{◌≡◌, ◌∙◌, ◌≤◌, ap, arith}
 use Rattle.cost_terms.specs.Table.{Table}
-use Rattle.deck_check.specs.Economy.{costs}
+use Rattle.checked_deck.specs.Economy.{costs}
 use Rattle.deck_check.specs.Readings as says
 use Rattle.deck_lines.specs.Deck.{body_of}
 use Rattle.wasp_session.proofs.ReportSteps.{first_greatest, first_within, report_in_form, report_is}

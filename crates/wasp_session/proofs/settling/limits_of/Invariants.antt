@@ -1,5 +1,5 @@
 use Rattle.std.proofs.Common.{◌≡◌, ◌+◌, length}
-use Rattle.deck_check.specs.TypedDeck.{limit}
+use Rattle.checked_deck.specs.TypedDeck.{limit}
 use Rattle.deck_lines.specs.Deck.{body_of}
 use Rattle.wasp_session.specs.Steps.{EachAt}
 use Rattle.wasp_session.proofs.settling.limits_of.Given as goal

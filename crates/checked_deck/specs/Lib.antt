@@ -1,0 +1,4 @@
+pub mod Economy
+pub mod Names
+pub mod Systems
+pub mod TypedDeck

@@ -1,8 +1,0 @@
-use Rattle.deck_lines.specs.Deck.{body_of}
-use Rattle.deck_check.proofs.CostFacts.{economy_counts}
-use Rattle.deck_check.proofs.typed.TypedDeck.economy.Goals as goal
-
-pub returns-clause-width : goal.returns-clause-width
-returns-clause-width c =
-    let value = rw c.self.view_is at c.economy_of.ensures.value in
-    economy_counts (body_of c.args.self.now) c.economy_of.result value
