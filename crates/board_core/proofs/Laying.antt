@@ -1,8 +1,8 @@
 -- The kept rows are placed one by one.
-use Rattle.std.proofs.Common.{eq-eqb, ne_eqb, ◌≡◌, ◌≢◌, true, false, replicate, ℕ, zero, suc, ◌+◌, ◌%◌, ◌^◌, ◌<◌, ◌≤◌, Bool, List, [], ◌∷◌, ◌++◌, if◌then◌else◌, length, take, drop, get_or, sym, refl, ap, ◌∙◌, subst, inl, inr, ⊎_elim, arith}
+use Rattle.std.proofs.Common.{eq-eqb, ne_eqb, ◌≡◌, ◌≢◌, true, replicate, ℕ, zero, suc, ◌+◌, ◌%◌, ◌^◌, ◌<◌, ◌≤◌, Bool, List, [], ◌∷◌, ◌++◌, if◌then◌else◌, length, take, get_or, sym, refl, ap, ◌∙◌, subst, inl, inr, ⊎_elim, arith}
 use Rattle.std.specs.Prelude.{slice_index, slice_set}
 use Rattle.std.proofs.lemmas.Bool.{cases_eq}
-use Rattle.std.proofs.lemmas.List.{length-map, map-append, take_more, length-replicate, length-set, get_or-set_same, get_or-set_other, drop_all, take_all, append-nil}
+use Rattle.std.proofs.lemmas.List.{length-map, map-append, take_more, length-set, get_or-set_same, get_or-set_other}
 use Rattle.board_core.specs.declared.slot.Slot.{Slot}
 use Rattle.board_core.specs.declared.row.KeptRow.{KeptRow}
 use Rattle.board_core.specs.Lists.{IsIn, times}
@@ -10,11 +10,11 @@ use Rattle.board_core.specs.Sound.{IsSound}
 use Rattle.board_core.specs.Rows.{terms, codes_of, due_word, words_of, home_slot}
 use Rattle.board_core.specs.Events.{put, newcomer, Laid}
 use Rattle.board_core.specs.Machine.{Machine, IsShaped, IsSoundMachine, slot_of, free_slot, cells_in, state_of}
-use Rattle.board_core.specs.Start.{free_slots, filled_slot, code_from, LaysRow, LaysRows}
+use Rattle.board_core.specs.Start.{filled_slot, code_from, LaysRow, LaysRows}
 use Rattle.board_core.specs.Laid.{IsLaid}
 use Rattle.board_core.proofs.Keeps.{each_put}
 use Rattle.board_core.proofs.Lists.{times-in}
-use Rattle.board_core.proofs.Begins.{begin_more, begin_empty}
+use Rattle.board_core.proofs.Begins.{begin_more}
 use Rattle.board_core.proofs.Pigeons.{pigeons, spot_once}
 
 -- the first row with a code is the one with it
@@ -98,19 +98,6 @@ blank zero s a d A f e = refl
 blank (suc n) zero a d A f e = e
 blank (suc n) (suc s) a d A f e = blank n s a d A f e
 
-blank_words : (n s : ℕ) (a d : Slot) → s < length (replicate n a) → length a.words ≡ 11 → length (get_or (replicate n a) s d).words ≡ 11
-blank_words zero s a d lt e = absurd (omega arith)
-blank_words (suc n) zero a d lt e = e
-blank_words (suc n) (suc s) a d lt e = blank_words n s a d (omega arith) e
-
-pub laid_none : (bits : ℕ) (due : List KeptRow) → IsLaid bits due [] (free_slots bits)
-laid_none bits due =
-    let free : Slot = record { code = 0; filled = false; words = replicate 11 0 } in record {
-      count = length-replicate (2 ^ bits) free;
-      words = λ s lt. blank_words (2 ^ bits) s free free_slot lt refl;
-      sound = begin_empty (terms bits due []) (cells_in (free_slots bits)) (λ s. blank (2 ^ bits) s free free_slot ℕ (λ (v : Slot). v.code) refl) (λ s. blank (2 ^ bits) s free free_slot ℕ state_of refl);
-    }
-
 -- a code does not stand before its place
 pub not_before : (kept : List KeptRow) (k : ℕ) (d : KeptRow) → k < length kept → ((x : ℕ) → times x (codes_of kept) ≤ 1) → times (get_or kept k d).code (codes_of (take k kept)) ≡ 0
 not_before kept k d lt once = let two = twice kept k d lt in let one = once (get_or kept k d).code in omega arith
@@ -140,11 +127,6 @@ free_at bits before slots x i home count d h n s lt e =
 -- the codes of one row more
 pub codes_more : (kept : List KeptRow) (k : ℕ) (d : KeptRow) → k < length kept → take k kept ++ get_or kept k d ∷ [] ≡ take (k + 1) kept
 codes_more kept k d lt = sym (take_more kept k d lt)
-
--- what was lent of a vector comes back
-pub lent : (n : ℕ) (new items : List Slot) → n ≡ length items → length new ≡ length items → take n (new ++ drop (length new) items) ≡ new
-lent n new items a b =
-    ap (λ (l : List Slot). take n (new ++ l)) (drop_all (length new) items (omega arith)) ∙ ap (take n) (append-nil new) ∙ take_all n new (omega arith)
 
 no_zero : (due : List KeptRow) → ((r : KeptRow) → IsIn r due → r.code ≢ 0) → times 0 (codes_of due) ≡ 0
 no_zero [] h = refl

@@ -369,9 +369,6 @@ after_publish m k s h =
     })
     h
 
-if_filled : (b : Bool) (x y : Machine) → (b ≡ true → IsSoundMachine x) → IsSoundMachine y → IsSoundMachine (if b then x else y)
-if_filled = if_enabled
-
 pub seen_of : (s : ℕ) (seen : List (ℕ × ℕ)) → has_seen s seen ≡ true → (x : ℕ) × IsIn (s, x) seen
 seen_of s [] e = absurd (true≢false (sym e))
 seen_of s (p ∷ ps) e = ⊎_elim (λ (h : (p.0 == s) ≡ true). (p.1, inl (λ i. (sym (same_of p.0 s h) i, p.1)))) (λ (h : has_seen s ps ≡ true). let o = seen_of s ps h in (o.0, inr o.1)) (or_cases (p.0 == s) (has_seen s ps) e)

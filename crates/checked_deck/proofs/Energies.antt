@@ -1,5 +1,5 @@
 -- The energy under a load duration curve, and the demand of a year.
-use Rattle.std.proofs.Common.{◌≡◌, ℕ, ◌+◌, ◌-◌, ◌*◌, ◌/◌, ◌^◌, ◌<◌, ◌≤◌, List, map, refl, arith}
+use Rattle.std.proofs.Common.{◌≡◌, ℕ, ◌+◌, ◌-◌, ◌*◌, ◌/◌, ◌<◌, ◌≤◌, List, map, refl, arith}
 use Rattle.std.specs.Prelude.{sum}
 use Rattle.std.specs.List.{range_with_len}
 use Rattle.std.proofs.lemmas.List.Sums.{sum_by_push}
@@ -48,9 +48,3 @@ demand_more f most total n x h same few = (
   rw (from_0_more f n, sum_by_push (λ (y : ℕ). y) (map f (range_with_len 0 n)) (f n), same, h.0) refl,
   let e : most * (n + 1) ≡ most * n + most = omega arith in rw e (omega (arith, h.1, few)),
 )
-
-pub demand_small : (periods total : ℕ) → 1 ≤ periods → total ≤ 400019 * (8760 / periods) * periods → total < 2 ^ 32
-demand_small periods total low h =
-    let hours : 8760 / periods * periods ≤ 8760 = div-mul-le_self 8760 periods in
-    let e : 400019 * (8760 / periods) * periods ≡ 400019 * (8760 / periods * periods) = omega arith in
-    omega (arith, h, e, mul-le-mul_left 400019 hours)

@@ -1,6 +1,6 @@
 -- What is true of a deck in its form that meets no row of the fault table: single statements, loads and shapes.
 use Rattle.std.proofs.Common.{◌≡◌, ℕ, ◌+◌, ◌*◌, ◌%◌, ◌<◌, ◌≤◌, ◌==◌, Bool, true, false, nat_le, List, [], ◌∷◌, length, slice_index, slice_index_or, Option, None, Some, is_some, IfSome, IsTrue, refl, sym, subst, arith, ⊎_elim}
-use Rattle.std.proofs.lemmas.Bool.{and_from, both_ways, cases_Bool, cases_lt, eq-eqb, le-leb, not-false}
+use Rattle.std.proofs.lemmas.Bool.{and_from, both_ways, cases_lt, eq-eqb, le-leb, not-false}
 use Rattle.std.proofs.Math.Nat.{mul-add-mod_self_left, mul-mod_right}
 use Rattle.deck_lines.proofs.Placed.{found_fits}
 use Rattle.deck_lines.specs.Body.{BodyParts}
@@ -12,7 +12,7 @@ use Rattle.deck_lines.specs.declared.head.Head.TheVariants as heads
 use Rattle.deck_lines.specs.declared.statement.Statement.{Statement}
 use Rattle.deck_lines.specs.Statements.{allows, is_name, is_statement, IsStatement}
 use Rattle.deck_check.specs.DeckFault as rows
-use Rattle.deck_check.specs.DeckFault.{HasNoFault, is_bad_point, names_shape, point_load, point_share, stated, table}
+use Rattle.deck_check.specs.DeckFault.{HasNoFault, stated, table}
 use Rattle.deck_check.specs.FaultTable.{is_in, IsUnmet, only, row_of_one, row_of_two, row_of_three, Span, upto}
 use Rattle.deck_check.specs.Forms.{bottom, form_of, IsFilled, IsFormOf, kind_at, top}
 use Rattle.deck_check.specs.Readings.{Says, is_there, number, numbers, numbers_in, periods, width, years}
@@ -76,9 +76,6 @@ none_in (Some b) i h = absurd cc
 
 pub absent_number : (d : Says) (h : Head) (i : ℕ) → is_there d h ≡ false → number d h i ≡ 0
 absent_number d h i absent = none_in (d h) i absent
-
-pub there_from_number : (d : Says) (h : Head) (i : ℕ) → 0 < number d h i → is_there d h ≡ true
-there_from_number d h i some = ⊎_elim (λ t. t) (λ f. absurd (omega (arith, some, absent_number d h i f))) (cases_Bool (is_there d h))
 
 pub first_of_pair : (a b : Kind) (i : ℕ) → slice_index_or (a ∷ b ∷ []) (2 * i % 2) kinds.Periods ≡ a
 first_of_pair a b i = rw (mul-mod_right 2 i) refl

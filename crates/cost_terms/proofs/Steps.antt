@@ -1,7 +1,7 @@
 -- Steps of the loops over candidates.
-use Rattle.std.proofs.Common.{◌≡◌, ℕ, ◌+◌, ◌-◌, ◌<◌, ◌≤◌, ◌++◌, List, [], ◌∷◌, length, map, sum_by, take, drop, get_or, ap, sym, ◌∙◌, arith}
+use Rattle.std.proofs.Common.{◌≡◌, ℕ, ◌+◌, ◌-◌, ◌<◌, ◌≤◌, ◌++◌, List, [], ◌∷◌, length, map, sum_by, take, drop, get_or, ap, ◌∙◌, arith}
 use Rattle.std.specs.List.{flat_map, zip}
-use Rattle.std.proofs.lemmas.List.{get_or-append-add, get_or-drop, get_or-map, length-append, length-drop, length-map, map-append, take_more}
+use Rattle.std.proofs.lemmas.List.{get_or-drop, length-append, length-drop, length-map, map-append, take_more}
 use Rattle.std.proofs.lemmas.List.Sums.{sum_by-append, sum_by_more}
 use Rattle.std.proofs.lemmas.Slice.Zip.{get_or-zip, length-zip}
 use Rattle.plant_data.proofs.UnitLists.{flat_map_take_more}
@@ -36,16 +36,6 @@ counted c counts f = omega (arith, f.width, width_is c)
 
 pub groups_long : (c : CostData) (counts : List ℕ) → Fits c counts → length (drop (length c.thermal) counts) ≡ length c.groups
 groups_long c counts f = omega (arith, length-drop (length c.thermal) counts, f.width, width_is c)
-
--- the count of a group is within its greatest
-pub group_most : (c : CostData) (counts : List ℕ) (k : ℕ) → Fits c counts → k < length c.groups → get_or counts (length c.thermal + k) 0 ≤ (get_or c.groups k no_group).greatest
-group_most c counts k f h =
-    let front = map (λ (p : ThermalCost). p.greatest) c.thermal in
-    let back = map (λ (g : GroupCost). g.greatest) c.groups in
-    let at : get_or (front ++ back) (length c.thermal + k) 0 ≡ (get_or c.groups k no_group).greatest =
-    ap (λ n. get_or (front ++ back) (n + k) 0) (sym (length-map c.thermal (λ (p : ThermalCost). p.greatest)))
-    ∙ (get_or-append-add front back k 0 ∙ get_or-map (λ (g : GroupCost). g.greatest) c.groups k no_group 0 h) in
-    omega (arith, f.most (length c.thermal + k) (omega (arith, f.width, width_is c, h)), at)
 
 -- one more of two lists side by side
 pub zip_more : {X : Type 0} (f : X × ℕ → ℕ) (xs : List X) (ns : List ℕ) (k : ℕ) (d : X) → length xs ≤ length ns → k < length xs →

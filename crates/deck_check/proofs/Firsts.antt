@@ -4,17 +4,13 @@ use Rattle.std.specs.Prelude.{sum, filter}
 use Rattle.std.specs.List.{flat_map, range_with_len}
 use Rattle.std.proofs.lemmas.List.{append-nil, flat_map_more, length-set, map-append, take_more_set}
 use Rattle.std.proofs.lemmas.List.Elements.{filter-append}
-use Rattle.std.proofs.lemmas.List.FromFn.{get_or-map-range_with_len, get_or-range_with_len, length-range_with_len, map-range_with_len_more}
+use Rattle.std.proofs.lemmas.List.FromFn.{get_or-map-range_with_len, length-range_with_len, map-range_with_len_more}
 use Rattle.std.proofs.lemmas.List.Sums.{sum_by_push}
 use Rattle.deck_check.specs.Readings.{first}
 
 pub length-first : (n : ℕ) → length (first n) ≡ n
 unfolding first
 length-first n = length-range_with_len 1 n
-
-pub get_or-first : (n i d : ℕ) → i < n → slice_index_or (first n) i d ≡ i + 1
-unfolding first
-get_or-first n i d h = get_or-range_with_len 1 n i d h ∙ omega arith
 
 range_more : (a n : ℕ) → range_with_len a (n + 1) ≡ range_with_len a n ++ (a + n) ∷ []
 range_more a n =

@@ -1,25 +1,15 @@
 -- Words and numbers, byte by byte.
-use Rattle.std.proofs.Common.{◌≡◌, ◌<◌, ◌≤◌, ◌+◌, ◌-◌, ◌*◌, ◌^◌, ℕ, Bool, true, false, cond, eqb, List, [], ◌∷◌, ◌++◌, length, take, drop, get_or, None, refl, sym, ap, subst, ◌∙◌, arith, inl, inr, lit<}
+use Rattle.std.proofs.Common.{◌≡◌, ◌<◌, ◌≤◌, ◌+◌, ◌-◌, ◌^◌, ℕ, Bool, true, false, cond, eqb, List, [], ◌∷◌, ◌++◌, length, take, drop, get_or, refl, sym, ap, subst, ◌∙◌, arith, inl, inr, lit<}
 use Rattle.std.proofs.Math.Nat.{pow-le-pow_right}
 use Rattle.std.proofs.lemmas.Bool.{ne_eqb, eq-eqb, cases_lt}
 use Rattle.std.proofs.lemmas.List.{drop_more, drop_all, take_more, take-append-drop, drop-drop, length-take, length-drop, get_or-drop}
-use Rattle.deck_lines.specs.Words.{Piece, is_space, joined, words_from, is_digit, number_after, IsWord}
+use Rattle.deck_lines.specs.Words.{Piece, is_space, joined, words_from, IsWord}
 
 -- up to 17 digits stand for a number below 10^17
 pub few_digits : (n i : ℕ) → n < 10 ^ i → i < 18 → n < 10 ^ 17
 few_digits n i lt few = omega (arith, lt, pow-le-pow_right {n = 10} (lit< tt) {i = i} {j = 17} (omega (arith, few)))
 
-pub number_step : (text : List ℕ) (i n : ℕ) (d : ℕ) → i < length text → get_or text i 0 ≡ d → is_digit d ≡ true → number_after n (drop i text) ≡ number_after (10 * n + (d - 48)) (drop (i + 1) text)
-number_step text i n d lt e digit = rw (drop_more text i 0 lt, e, digit) refl
-
-pub number_stop : (text : List ℕ) (i n : ℕ) (d : ℕ) → i < length text → get_or text i 0 ≡ d → is_digit d ≡ false → number_after n (drop i text) ≡ None
-number_stop text i n d lt e digit = rw (drop_more text i 0 lt, e, digit) refl
-
 -- ---- words
-
--- a space leaves the words as they are
-pub space_step : (text : List ℕ) (i column : ℕ) → i < length text → is_space (get_or text i 0) ≡ true → words_from column (drop i text) ≡ words_from (column + 1) (drop (i + 1) text)
-space_step text i column lt space = rw (drop_more text i 0 lt, space) refl
 
 word_push : (text : List ℕ) (b : ℕ) → IsWord text → is_space b ≡ false → IsWord (text ++ b ∷ [])
 word_push [] b h k = (k, tt)

@@ -1,10 +1,9 @@
 -- What is read is in its form.
-use Rattle.std.proofs.Common.{◌≡◌, ℕ, zero, suc, ◌-◌, ◌<◌, ◌≤◌, Bool, true, false, cond, eqb, List, [], ◌∷◌, ◌++◌, length, slice_index, Option, None, Some, Result, Ok, Err, refl, sym, ap, subst, ◌∙◌, append_assoc, arith, IfOk}
+use Rattle.std.proofs.Common.{◌≡◌, ℕ, zero, suc, ◌-◌, ◌<◌, ◌≤◌, Bool, true, false, cond, eqb, List, [], ◌∷◌, ◌++◌, length, slice_index, Option, None, Some, Result, Ok, Err, refl, sym, ap, subst, ◌∙◌, append_assoc, arith}
 use Rattle.std.proofs.lemmas.List.{append-nil}
 use Rattle.std.proofs.lemmas.Bool.{eq-eqb}
 use Rattle.std.proofs.Math.Seq.{take-append_seam, drop-append_seam}
 use Rattle.deck_lines.specs.declared.fault.LineFault.{LineFault}
-use Rattle.deck_lines.specs.declared.fault.LineError.{LineError}
 use Rattle.deck_lines.specs.declared.fault.LineKind.TheVariants as faults
 use Rattle.deck_lines.specs.declared.form.Kind.{Kind}
 use Rattle.deck_lines.specs.declared.form.Naming.{Naming}
@@ -13,7 +12,7 @@ use Rattle.deck_lines.specs.declared.head_word.HeadWord.{HeadWord}
 use Rattle.deck_lines.specs.declared.head_word.HeadWord.TheVariants as words
 use Rattle.deck_lines.specs.declared.statement.Statement.{Statement}
 use Rattle.deck_lines.specs.Words.{Piece, number_of}
-use Rattle.deck_lines.specs.LineFault.{◌>>=◌, fault, Gives}
+use Rattle.deck_lines.specs.LineFault.{◌>>=◌, fault}
 use Rattle.deck_lines.specs.Statements.{year, case, plant, candidate, group, project, period, fuel, shape, layout_of, head_of, word_of, index_of, allows, allows_each, are_groups, is_named, is_name, is_rule, number_in, number_at, fields_onto, groups_onto, name_at, statement_of, headed, is_statement, IsStatement}
 use Rattle.deck_lines.proofs.Ranges.{both, allows_each-length}
 
@@ -245,7 +244,3 @@ statement_fits word end ws s e =
 pub headed_fits : (word : Option HeadWord) (column end : ℕ) (ws : List Piece) (s : Statement) → headed word column end ws ≡ Ok s → IsStatement s
 headed_fits None column end ws s e = absurd cc
 headed_fits (Some word) column end ws s e = statement_fits word end ws s e
-
-pub headed_gives : (word : Option HeadWord) (column end : ℕ) (ws : List Piece) (r : Result Statement LineError) → Gives (λ s. s) r (headed word column end ws) → IfOk r (λ s. IsStatement s)
-headed_gives word column end ws (Ok s) e = headed_fits word column end ws s e
-headed_gives word column end ws (Err e) h = tt

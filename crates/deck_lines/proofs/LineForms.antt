@@ -128,10 +128,6 @@ drop_fits : (end : ℕ) (ws : List Piece) → IfOk (drop_line end ws) IsLine
 drop_fits end [] = tt
 drop_fits end (w ∷ ws) = dropped_fits (head_word_of w.text) w.column end ws
 
--- a value is a number of at most 18 digits
-IsValue : Option ℕ → Type 0
-IsValue value = IfSome value (λ v. v < 10 ^ 18)
-
 below : (n : ℕ) → allows number n ≡ true → n < 10 ^ 18
 below n h = omega (arith, (within number n h).1)
 

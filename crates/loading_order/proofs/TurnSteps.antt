@@ -48,10 +48,6 @@ turns_are units places done d e m s =
     (range_with_len 0 n) done (all_from_places P (range_with_len 0 n) all) m2
     (all_from_places P done (All-permutation P (range_with_len 0 n) done m2 all)) s
 
--- the periods before maintenance, one more
-start_of : ℕ → ℕ × ℕ → Period
-start_of H c = record { supply = c.0 * H; need = c.1 * H; hours = 0 }
-
 pub starting_more : (H : ℕ) (cs ps : List ℕ) (m : ℕ) → m < length ps → length cs ≡ length ps → take (m + 1) (starting H cs ps) ≡ take m (starting H cs ps) ++ record { supply = get_or cs m 0 * H; need = get_or ps m 0 * H; hours = 0 } ∷ []
 starting_more H cs ps m h e =
     let l : m < length (zip cs ps) = omega (arith, length-zip cs ps) in
@@ -99,13 +95,6 @@ written_at H units (i ∷ later) ps f g u m e =
 -- each turn is a unit's
 pub each_within : (n : ℕ) (done : List ℕ) → IsPermutation (range_with_len 0 n) done → All (λ i. i < n) done
 each_within n done m = All-permutation (λ i. i < n) (range_with_len 0 n) done m (places_within n)
-
--- one turn
-pub turn_more : (H : ℕ) (units : List Machine) (places : List ℕ) (t : ℕ) (ps : List Period) (f : ℕ → ℕ → ℕ) (u m : ℕ) → t < length places →
-    written H units (drop t places) ps f u m ≡
-    written H units (drop (t + 1) places) (open_again (place_hours H (get_or units (get_or places t 0) no_unit).full (length ps) (get_or units (get_or places t 0) no_unit).repair ps))
-    (λ w k. cond (w == get_or places t 0) (availability (get_or units (get_or places t 0) no_unit).outage (get_or (hours_of H (get_or units (get_or places t 0) no_unit) ps) k 0) H) (f w k)) u m
-turn_more H units places t ps f u m h = at_drop_more (λ qs. written H units qs ps f u m) places t 0 h
 
 -- rows of different units are apart
 pub rows_apart : (u place n m : ℕ) → m < n → (u ≡ place → ⊥) → (u * n + m < place * n) ⊎ (place * n + n ≤ u * n + m)

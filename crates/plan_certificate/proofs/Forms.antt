@@ -1,28 +1,20 @@
 -- The form of a certificate's lines, by what is kept of them.
-use Rattle.std.proofs.Common.{◌≡◌, ◌≢◌, ◌↔◌, ℕ, zero, suc, ◌+◌, ◌-◌, ◌^◌, ◌<◌, ◌≤◌, Bool, true, List, [], ◌∷◌, ◌++◌, length, get_or, map, take, All, Contains, Option, Some, None, IsSome, sym, ap, ◌∙◌, arith, refl, subst, true≢false, ⊎_elim, inl, inr, ◌⊎◌}
+use Rattle.std.proofs.Common.{◌≡◌, ◌≢◌, ◌↔◌, ℕ, ◌+◌, ◌-◌, ◌<◌, ◌≤◌, Bool, true, List, [], ◌∷◌, ◌++◌, length, get_or, map, take, Contains, Option, Some, None, IsSome, sym, ap, ◌∙◌, arith, refl, subst, true≢false, ⊎_elim, inl, inr, ◌⊎◌}
 use Rattle.std.proofs.Math.ListN.{get_or-append, get_or-map}
 use Rattle.std.proofs.Math.Seq.{get_or-append_seam}
 use Rattle.std.proofs.lemmas.Bool.{cases_eq, cases_lt}
-use Rattle.std.proofs.lemmas.List.{append-nil, get_or_default, length-append, length-map, map-append, take_all}
+use Rattle.std.proofs.lemmas.List.{append-nil, get_or_default, length-append, length-map, map-append}
 use Rattle.std.proofs.lemmas.Option.{none-some}
 use Rattle.deck_lines.specs.declared.line.CertLine.{CertLine}
 use Rattle.deck_lines.specs.declared.line.CertLine.TheVariants.{Come, Chosen, Total, Infeasible}
 use Rattle.plan_certificate.specs.Form.{Adds, IsFaultyWith, IsRead}
-use Rattle.plan_certificate.specs.Gathered.{IsAgain, IsAgainBelow}
-use Rattle.plan_certificate.specs.Reading.{AreCertLines, HasChosen, HasInfeasible, HasTotal, IsFaulty, IsFaultyAt, IsNamedBy, chosen_by, chosen_of, last_year, line_at}
+use Rattle.plan_certificate.specs.Gathered.{IsAgainBelow}
+use Rattle.plan_certificate.specs.Reading.{HasChosen, HasInfeasible, HasTotal, IsFaulty, IsNamedBy, chosen_by, chosen_of, last_year, line_at}
 use Rattle.plan_certificate.specs.declared.reading.Reading.{Reading}
-use Rattle.plan_certificate.proofs.Lines.{chosen_add, chosen_line, config_of, contains_cases, contains_end, contains_front, kind, line_chosen, take_more, value_of, year_of}
+use Rattle.plan_certificate.proofs.Lines.{chosen_add, chosen_line, config_of, contains_cases, contains_end, contains_front, kind, line_chosen, year_of}
 
 -- ---- what is kept
 
-pub read_none : (r : Reading) → r.chosen.items ≡ [] → r.total ≡ None → r.infeasible ≡ None → IsRead [] r
-read_none r c t i = record {
-  chosen = sym c;
-  counted = λ k h. absurd (omega (arith, h));
-  total = λ v e. absurd (none-some v (sym t ∙ e));
-  no_total = λ _ h. none_in h;
-  infeasible = λ y e. absurd (none-some y (sym i ∙ e));
-  no_infeasible = λ _ h. none_year h;
 }
   where
     none_in : HasTotal [] → ⊥

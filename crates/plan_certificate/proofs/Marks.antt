@@ -1,10 +1,10 @@
 -- The marks of lines that name a configuration again.
-use Rattle.std.proofs.Common.{◌≡◌, ◌≢◌, ◌↔◌, ℕ, zero, suc, ◌+◌, ◌-◌, ◌<◌, ◌≤◌, Bool, true, false, List, [], ◌∷◌, ◌++◌, length, get_or, set, All, Contains, replicate, sym, ap, ◌∙◌, arith, refl, subst, true≢false, ⊎_elim, inl, inr, ◌⊎◌}
+use Rattle.std.proofs.Common.{◌≡◌, ◌≢◌, ◌↔◌, ℕ, ◌+◌, ◌-◌, ◌<◌, ◌≤◌, Bool, true, false, List, [], ◌∷◌, ◌++◌, length, get_or, set, All, replicate, sym, ap, ◌∙◌, arith, subst, true≢false, ⊎_elim, inl, inr, ◌⊎◌}
 use Rattle.std.proofs.lemmas.Bool.{cases_eq, cases_lt}
 use Rattle.std.proofs.Math.ListN.{get_or-append}
 use Rattle.std.proofs.lemmas.List.{get_or_push, get_or-replicate, get_or-set_other, get_or-set_same, get_or_default, get_or_past, length-replicate}
 use Rattle.deck_lines.specs.declared.line.CertLine.{CertLine}
-use Rattle.plan_certificate.specs.Gathered.{AreMarked, AreNamesOf, AreNumbered, HasMark, IsAdded, IsAgain, IsAgainBelow, IsMarked, MarksAgain, RepeatsAt, no_numbered, numbered_at}
+use Rattle.plan_certificate.specs.Gathered.{AreMarked, AreNamesOf, AreNumbered, HasMark, IsAdded, IsAgain, IsAgainBelow, IsMarked, MarksAgain, RepeatsAt, numbered_at}
 use Rattle.plan_certificate.specs.Reading.{line_at, no_line}
 use Rattle.plan_certificate.specs.declared.certificate.Named.{Named}
 use Rattle.plan_certificate.specs.declared.gathered.Numbered.{Numbered}
@@ -17,9 +17,6 @@ numbered_step lines year n names new line h is b a =
     (λ one. numbered_more lines year n names new line one.0 h at one.1 one.2)
     (λ none. subst (λ (xs : List Numbered). AreNumbered lines year (n + 1) xs) (sym none.1) (numbered_skip lines year n names line h at none.0))
     a
-
-pub marked_none : (names : List Numbered) (marks : List Bool) → AreMarked names 1 marks marks
-marked_none names marks line = (λ h. inl h, λ h. ⊎_elim (λ old. old) (λ r. absurd (omega (arith, r.within))) h)
 
 -- one name more
 more : (names : List Numbered) (n line : ℕ) → RepeatsAt names n line → RepeatsAt names (n + 1) line
@@ -89,10 +86,6 @@ marks_again lines year names old new h o m line = (
 
 -- ---- years
 
-pub below_none : (lines : List CertLine) (marks : List Bool) (n : ℕ) → marks ≡ replicate n false → (line : ℕ) → HasMark marks line ↔ IsAgainBelow lines 0 line
-below_none lines marks n e line = (
-  λ g. absurd (never g),
-  λ (y, b, a). absurd (omega (arith, b)),
 )
   where
     never : HasMark marks line → ⊥

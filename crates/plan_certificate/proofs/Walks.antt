@@ -1,23 +1,20 @@
 -- The chosen configurations, walked year by year.
-use Rattle.std.proofs.Common.{◌≡◌, ◌≢◌, ℕ, zero, suc, ◌+◌, ◌-◌, ◌<◌, ◌≤◌, List, [], ◌∷◌, ◌++◌, length, get_or, map, take, reverse, Contains, sym, ap, ◌∙◌, arith, refl, subst, ⊎_elim}
+use Rattle.std.proofs.Common.{◌≡◌, ℕ, suc, ◌+◌, ◌-◌, ◌<◌, List, [], ◌∷◌, ◌++◌, length, get_or, take, reverse, sym, ap, ◌∙◌, arith, subst, ⊎_elim}
 use Rattle.std.proofs.Math.ListN.{get_or-map}
 use Rattle.std.proofs.Math.Seq.{take-suc}
 use Rattle.std.proofs.lemmas.Bool.{cases_eq}
-use Rattle.std.proofs.lemmas.List.{length-map, length-reverse, take_all}
+use Rattle.std.proofs.lemmas.List.{length-map, take_all}
 use Rattle.plant_data.specs.Configs.{IsAtMost}
-use Rattle.cost_terms.specs.Cost.{nothing_built, step_cost}
+use Rattle.cost_terms.specs.Cost.{step_cost}
 use Rattle.cost_terms.specs.Table.{IsTable, Table, plan_cost}
 use Rattle.cost_terms.specs.declared.entries.Scored.{Scored}
-use Rattle.plan_program.specs.Plans.{configs, entry_at, layer_at, no_entry}
-use Rattle.plan_program.specs.Ways.{IsWay, last_config, way_cost}
+use Rattle.plan_program.specs.Plans.{configs, entry_at, no_entry}
+use Rattle.plan_program.specs.Ways.{last_config}
 use Rattle.plan_program.proofs.Orders.{configs_push}
 use Rattle.plan_program.proofs.Ways.{cost_same, nothing_least, reverse_more, way_plan}
-use Rattle.plan_certificate.specs.Certificate.{Costs, HasPlanOver, IsAccepted, IsPlanOver}
+use Rattle.plan_certificate.specs.Certificate.{HasPlanOver, IsAccepted, IsPlanOver}
 use Rattle.plan_certificate.specs.Steps.{IsCostOf, StepsTo, WalksTo}
 use Rattle.plan_certificate.proofs.Aligned.{list_ext, one_entry}
-
-pub walk_start : (t : Table) (chosen : List (List ℕ)) (before : List ℕ) → before ≡ nothing_built t.economy → WalksTo t chosen 0 before 0
-walk_start t chosen before e = record { way = []; is_way = tt; long = refl; told = refl; stands = λ h. absurd (omega (arith, h)); last = sym e; costs = refl }
 
 step_costs : (t : Table) (k n : ℕ) (before last config : List ℕ) (e : Scored) (old cost : ℕ) → n ≡ k → last ≡ before → e.config ≡ config → step_cost t.economy (k + 1) before config e.row ≡ cost → old + step_cost t.economy (n + 1) last e.config e.row ≡ old + cost
 step_costs t k n before last config e old cost h l s c = ap (λ x. old + x) ((λ i. step_cost t.economy (h i + 1) (l i) (s i) e.row) ∙ c)

@@ -5,7 +5,7 @@ use Rattle.std.proofs.Math.Seq.{get_or-append_seam}
 use Rattle.std.proofs.lemmas.Bool.{cases_eq, cases_lt}
 use Rattle.std.proofs.lemmas.List.{get_or_default, get_or_past, get_or_push, length-append}
 use Rattle.std.proofs.lemmas.Option.{none-some}
-use Rattle.std.specs.Option.{IfSome, unwrap_or}
+use Rattle.std.specs.Option.{unwrap_or}
 use Rattle.plant_data.specs.Configs.{IsAtMost}
 use Rattle.cost_terms.specs.Cost.{nothing_built, step_cost}
 use Rattle.cost_terms.specs.CostData.{Fits}
@@ -16,10 +16,6 @@ use Rattle.plan_program.specs.Plans.{entry_at, layer_at, no_entry}
 use Rattle.plan_program.specs.Steps.{AreNumbered, AreReached, IsLeastFrom, IsMet, AreWayCosts, IsRaised, IsWithWay, built, lesser_of, raised, reached_at, running}
 use Rattle.plan_program.specs.Ways.{IsLeastWay, IsWay, IsWayCost, last_config, way_cost}
 use Rattle.plan_program.specs.declared.come.Reached.{Reached}
-
--- the loop over what is reached
-pub least_none : (c : CostData) (year : ℕ) (rs : List Reached) (config : List ℕ) → IsLeastFrom c year rs 0 config None
-least_none c year rs config i h = absurd (omega (arith, h))
 
 pub least_skip : (c : CostData) (year : ℕ) (rs : List Reached) (n : ℕ) (config : List ℕ) (v : Option ℕ) → IsLeastFrom c year rs n config v → (IsAtMost (reached_at rs n).config config → ⊥) → IsLeastFrom c year rs (n + 1) config v
 least_skip c year rs n config None h not = λ i b g. ⊎_elim (λ e. not (subst (λ k. IsAtMost (reached_at rs k).config config) e g)) (λ other. h i (omega (arith, b, other)) g) (cases_eq i n)
@@ -54,10 +50,6 @@ least_more c year rs n config None w h g e = (
   λ i b k. ⊎_elim (λ same. rw same (omega (arith, e))) (λ other. absurd (h i (omega (arith, b, other)) k)) (cases_eq i n),
 )
 least_more c year rs n config (Some v) w h g e = least_here c year rs n config v w h g e
-
-pub lesser_small : (v : Option ℕ) (w most : ℕ) → IfSome v (λ x. x ≤ most) → w ≤ most → lesser_of v w ≤ most
-lesser_small None w most h k = k
-lesser_small (Some v) w most h k = omega (arith, h, k)
 
 -- the loop over a year's entries
 pub numbered_none : (layer : List Scored) (come : List (Option ℕ)) → AreNumbered layer come 0 []

@@ -19,9 +19,6 @@ pub record SomeSoFar (come : List (Option ℕ)) (n place : ℕ) : Type 0 where
 abbrev pub LeastSoFar : List (Option ℕ) → ℕ → ℕ → Type 0
 LeastSoFar come n place = NoneSoFar come n place ⊎ SomeSoFar come n place
 
-pub least_start : (come : List (Option ℕ)) → LeastSoFar come 0 0
-least_start come = inl (record { none = λ i h. absurd (omega (arith, h)); start = refl })
-
 less_of : (a b x y : Option ℕ) → a ≡ x → b ≡ y → IsLess x y → IsLess a b
 less_of a b x y e f h = subst (λ (o : Option ℕ). IsLess o b) (sym e) (subst (λ (o : Option ℕ). IsLess x o) (sym f) h)
 

@@ -69,14 +69,3 @@ area-clipped held used from to h =
     clipped (cell held) (cell (take used held)) used from to _ _ h refl refl
     (λ x lt. sym (get_or-take used held x 0 lt))
     (λ x le. get_or_past (take used held) x 0 (omega (arith, length-take {A = ℕ})))
-
--- two curves that agree everywhere
-pub area-same : (f g : ℕ → ℕ) (from to : ℕ) → ((x : ℕ) → f x ≡ g x) → area f from to ≡ area g from to
-area-same f g from to h = run-same f g from (to - from) (λ x lt. h x)
-
--- the sum of a list of values, one more
-pub sum-more : (f : ℕ → ℕ) (n : ℕ) → sum (map f (range_with_len 0 (n + 1))) ≡ sum (map f (range_with_len 0 n)) + f n
-sum-more f n =
-    let e : n + 1 ≡ suc n = omega arith in
-    let z : 0 + n ≡ n = omega arith in
-    rw e (rw z at (run-more f 0 n))
