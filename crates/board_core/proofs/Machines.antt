@@ -1,8 +1,7 @@
 -- Each event keeps the machine sound.
-use Rattle.std.proofs.Common.{true≢false, eq-eqb, ne_eqb, ◌≡◌, ◌≢◌, ℕ, zero, suc, ◌+◌, ◌-◌, ◌%◌, ◌^◌, ◌<◌, ◌≤◌, Bool, true, false, not, ◌&&◌, ◌||◌, List, [], ◌∷◌, ◌++◌, ◌⊎◌, ◌==◌, if◌then◌else◌, length, set, get_or, Option, Some, None, sym, refl, ap, ◌∙◌, subst, inl, inr, ⊎_elim, arith}
+use Rattle.std.proofs.Common.{true≢false, eq-eqb, ne_eqb, ◌≡◌, ◌≢◌, ℕ, zero, suc, ◌+◌, ◌-◌, ◌%◌, ◌^◌, ◌<◌, ◌≤◌, Bool, true, false, not, ◌&&◌, List, [], ◌∷◌, ◌++◌, ◌⊎◌, ◌==◌, if◌then◌else◌, length, set, get_or, Option, Some, None, sym, refl, ap, ◌∙◌, subst, inl, inr, ⊎_elim, arith}
 use Rattle.std.specs.Prelude.{slice_index, slice_index_or, slice_set, nat_lt}
-use Rattle.std.proofs.lemmas.Bool.{cases_lt, cases_eq, cases_Bool}
-use Rattle.std.proofs.lemmas.Bool.Decides.{nat_tests}
+use Rattle.std.proofs.lemmas.Bool.{cases_Bool, cases_eq, cases_lt, eqb-true, or_cases}
 use Rattle.std.proofs.lemmas.List.{length-set, get_or-set_same, get_or-set_other}
 use Rattle.std.proofs.Math.Nat.{add-mod_right, mod-eq_of_lt}
 use borrow.Author.Tests.{ltb-true}
@@ -33,13 +32,6 @@ pub and_right : (a b : Bool) → (a && b) ≡ true → b ≡ true
 and_right true b e = e
 and_right false b e = absurd (true≢false (sym e))
 
-or_cases : (a b : Bool) → (a || b) ≡ true → (a ≡ true) ⊎ (b ≡ true)
-or_cases true b e = inl refl
-or_cases false b e = inr e
-
-pub same_of : (a b : ℕ) → (a == b) ≡ true → a ≡ b
-same_of a b e = grind (arith, nat_tests)
-
 pub other_of : (a b : ℕ) → not (a == b) ≡ true → a ≢ b
 other_of a b e h = true≢false (sym e ∙ ap not (eq-eqb a b h))
 
@@ -47,7 +39,7 @@ pub saw_other : (x s : ℕ) (seen : List (ℕ × ℕ)) → has_seen_other x s se
 saw_other x s [] e = absurd (true≢false (sym e))
 saw_other x s (p ∷ ps) e = ⊎_elim
     (λ (h : ((p.0 == s) && not (p.1 == x)) ≡ true).
-    let a = same_of p.0 s (and_left (p.0 == s) (not (p.1 == x)) h) in
+    let a = eqb-true p.0 s (and_left (p.0 == s) (not (p.1 == x)) h) in
     (p.1, inl (λ i. (sym a i, p.1)), other_of p.1 x (and_right (p.0 == s) (not (p.1 == x)) h)))
     (λ (h : has_seen_other x s ps ≡ true). let o = saw_other x s ps h in (o.0, inr o.1, o.2))
     (or_cases ((p.0 == s) && not (p.1 == x)) (has_seen_other x s ps) e)
@@ -61,7 +53,7 @@ path_of bits x seen (suc n) j e lt = ⊎_elim
 
 pub code_of : (x : ℕ) (rows : List KeptRow) → has_code x rows ≡ true → IsIn x (codes_of rows)
 code_of x [] e = absurd (true≢false (sym e))
-code_of x (r ∷ rs) e = ⊎_elim (λ (h : (r.code == x) ≡ true). inl (sym (same_of r.code x h))) (λ (h : has_code x rs ≡ true). inr (code_of x rs h)) (or_cases (r.code == x) (has_code x rs) e)
+code_of x (r ∷ rs) e = ⊎_elim (λ (h : (r.code == x) ≡ true). inl (sym (eqb-true r.code x h))) (λ (h : has_code x rs ≡ true). inr (code_of x rs h)) (or_cases (r.code == x) (has_code x rs) e)
 
 spot_distance : (n h s : ℕ) → h < n → s < n → (h + (s + (n - h)) % n) % n ≡ s
 spot_distance n h s a b = ⊎_elim
@@ -302,7 +294,7 @@ cells_published m s lt =
 
 pub slot_in : (s : ℕ) (o : Option Hand) → is_slot_in s o ≡ true → (h : Hand) × (o ≡ Some h) × (h.slot ≡ s)
 slot_in s None e = absurd (true≢false (sym e))
-slot_in s (Some h) e = (h, refl, same_of h.slot s e)
+slot_in s (Some h) e = (h, refl, eqb-true h.slot s e)
 
 -- who has something in hand, or knows of a filled slot, is living
 pub hand_lives : (t : Terms) (c : Cells) (vs : List Actor) (k : ℕ) (h : Hand) → IsSound t c vs → (get_or vs k spent).hand ≡ Some h → (get_or vs k spent).living ≡ true
@@ -340,7 +332,7 @@ after_write m k s at h =
 
 pub is_in_of : (x : ℕ) (xs : List ℕ) → has x xs ≡ true → IsIn x xs
 is_in_of x [] e = absurd (true≢false (sym e))
-is_in_of x (y ∷ ys) e = ⊎_elim (λ (h : (y == x) ≡ true). inl (sym (same_of y x h))) (λ (h : has x ys ≡ true). inr (is_in_of x ys h)) (or_cases (y == x) (has x ys) e)
+is_in_of x (y ∷ ys) e = ⊎_elim (λ (h : (y == x) ≡ true). inl (sym (eqb-true y x h))) (λ (h : has x ys ≡ true). inr (is_in_of x ys h)) (or_cases (y == x) (has x ys) e)
 
 pub written_all : (n : ℕ) (l : List ℕ) (at : ℕ) → all_written n l ≡ true → at < n → IsIn at l
 written_all zero l at e lt = absurd (omega arith)
@@ -371,7 +363,7 @@ after_publish m k s h =
 
 pub seen_of : (s : ℕ) (seen : List (ℕ × ℕ)) → has_seen s seen ≡ true → (x : ℕ) × IsIn (s, x) seen
 seen_of s [] e = absurd (true≢false (sym e))
-seen_of s (p ∷ ps) e = ⊎_elim (λ (h : (p.0 == s) ≡ true). (p.1, inl (λ i. (sym (same_of p.0 s h) i, p.1)))) (λ (h : has_seen s ps ≡ true). let o = seen_of s ps h in (o.0, inr o.1)) (or_cases (p.0 == s) (has_seen s ps) e)
+seen_of s (p ∷ ps) e = ⊎_elim (λ (h : (p.0 == s) ≡ true). (p.1, inl (λ i. (sym (eqb-true p.0 s h) i, p.1)))) (λ (h : has_seen s ps ≡ true). let o = seen_of s ps h in (o.0, inr o.1)) (or_cases (p.0 == s) (has_seen s ps) e)
 
 pub after_look_state : (m : Machine) (k s : ℕ) → IsSoundMachine m → IsSoundMachine (after m (LookState k s))
 after_look_state m k s h =

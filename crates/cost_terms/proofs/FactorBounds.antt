@@ -1,15 +1,13 @@
 -- Discount factors never rise, and escalated prices stay below eighteen times the first.
-use Rattle.std.proofs.Common.{◌≡◌, ℕ, zero, suc, ◌+◌, ◌*◌, ◌/◌, ◌<◌, ◌≤◌, arith, refl, ⊎_elim}
-use Rattle.std.proofs.Math.Nat.{div-le_of_le-mul, div-mul-le_self, mul-le-mul, mul-le-mul_left}
+use Rattle.std.proofs.Common.{◌≡◌, ℕ, zero, suc, ◌+◌, ◌*◌, ◌/◌, ◌≤◌, arith, refl, ⊎_elim}
+use Rattle.std.proofs.Math.Nat.{div-le_of_le-mul, mul-le-mul, mul-le-mul_left}
 use Rattle.std.proofs.lemmas.Bool.{cases_eq, leb-true}
 use Rattle.std.proofs.lemmas.Nat.{le-div}
 use Rattle.wasp_fixed.proofs.Factors.{shrinks}
 use Rattle.wasp_fixed.specs.Discounts.{end_factor}
 use Rattle.wasp_fixed.specs.declared.numbers.TheConstants.{ONE}
+use Rattle.wasp_fixed.proofs.Floors.{div-le-div}
 use Rattle.cost_terms.specs.Cost.{escalated}
-
-pub div-le-div : (m n k : ℕ) → 0 < k → m ≤ n → m / k ≤ n / k
-div-le-div m n k some le = le-div (m / k) n k some (omega (arith, div-mul-le_self m k))
 
 pub end_most : (rate k : ℕ) → end_factor rate k ≤ ONE
 unfolding end_factor

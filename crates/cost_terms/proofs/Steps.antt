@@ -1,8 +1,8 @@
 -- Steps of the loops over candidates.
-use Rattle.std.proofs.Common.{◌≡◌, ℕ, ◌+◌, ◌-◌, ◌<◌, ◌≤◌, ◌++◌, List, [], ◌∷◌, length, map, sum_by, take, drop, get_or, ap, ◌∙◌, arith}
+use Rattle.std.proofs.Common.{◌≡◌, ℕ, ◌+◌, ◌-◌, ◌<◌, ◌≤◌, ◌++◌, List, [], ◌∷◌, length, map, take, drop, get_or, ap, ◌∙◌, arith}
 use Rattle.std.specs.List.{flat_map, zip}
 use Rattle.std.proofs.lemmas.List.{get_or-drop, length-append, length-drop, length-map, map-append, take_more}
-use Rattle.std.proofs.lemmas.List.Sums.{sum_by-append, sum_by_more}
+use Rattle.std.proofs.lemmas.List.Sums.{sum_by-append}
 use Rattle.std.proofs.lemmas.Slice.Zip.{get_or-zip, length-zip}
 use Rattle.plant_data.proofs.UnitLists.{flat_map_take_more}
 use Rattle.cost_terms.specs.Cost.{added_projects, added_units, domestic, foreign, group_steps, inventory, item_salvage, thermal_steps}
@@ -26,7 +26,7 @@ no_group = record { existing = 0; greatest = 0; fixed = 0; projects = [] }
 abbrev pub no_project : ProjectCost
 no_project = record { capacity = 0; capdom = 0; capfor = 0; life = 0 }
 
-width_is : (c : CostData) → length (greatest c) ≡ length c.thermal + length c.groups
+pub width_is : (c : CostData) → length (greatest c) ≡ length c.thermal + length c.groups
 width_is c =
     length-append (map (λ (p : ThermalCost). p.greatest) c.thermal) (map (λ (g : GroupCost). g.greatest) c.groups)
     ∙ omega (arith, length-map c.thermal (λ (p : ThermalCost). p.greatest), length-map c.groups (λ (g : GroupCost). g.greatest))
@@ -36,13 +36,6 @@ counted c counts f = omega (arith, f.width, width_is c)
 
 pub groups_long : (c : CostData) (counts : List ℕ) → Fits c counts → length (drop (length c.thermal) counts) ≡ length c.groups
 groups_long c counts f = omega (arith, length-drop (length c.thermal) counts, f.width, width_is c)
-
--- one more of two lists side by side
-pub zip_more : {X : Type 0} (f : X × ℕ → ℕ) (xs : List X) (ns : List ℕ) (k : ℕ) (d : X) → length xs ≤ length ns → k < length xs →
-    sum_by f (take (k + 1) (zip xs ns)) ≡ sum_by f (take k (zip xs ns)) + f (get_or xs k d, get_or ns k 0)
-zip_more f xs ns k d l h =
-    let n : k < length (zip xs ns) = omega (arith, length-zip xs ns) in
-    sum_by_more f (zip xs ns) k (d, 0) n ∙ ap (λ e. sum_by f (take k (zip xs ns)) + f e) (get_or-zip xs ns k (d, 0) h (omega arith))
 
 -- a candidate with its counts before and after
 pub pair_at : {X : Type 0} (xs : List X) (ms ns : List ℕ) (k : ℕ) (d : X) → length xs ≤ length ms → length xs ≤ length ns → k < length xs →

@@ -1,10 +1,9 @@
 -- Heads with one key are equal.
 use Rattle.std.proofs.Common.{◌≡◌, ◌==◌, true, ◌&&◌, if◌then◌else◌, refl, sym, ap, ◌∙◌}
-use Rattle.std.proofs.lemmas.Bool.{eqb-true, eq-eqb}
+use Rattle.std.proofs.lemmas.Bool.{and_parts, eq-eqb, eqb-true}
 use Rattle.deck_lines.specs.declared.head.Head.{Head}
 use Rattle.deck_lines.specs.declared.head.Head.TheVariants as heads
 use Rattle.deck_lines.specs.Statements.{Key, key_of, same_key, same_head}
-use Rattle.deck_lines.proofs.Ranges.{both}
 
 -- the head of a key
 abbrev head_at : Key → Head
@@ -62,9 +61,9 @@ back heads.Grid = refl
 
 same_keys : (a b : Key) → same_key a b ≡ true → a ≡ b
 same_keys a b h =
-    let third = both ((a.place == b.place) && (a.i == b.i) && (a.j == b.j)) (a.k == b.k) h in
-    let second = both ((a.place == b.place) && (a.i == b.i)) (a.j == b.j) third.0 in
-    let first = both (a.place == b.place) (a.i == b.i) second.0 in
+    let third = and_parts ((a.place == b.place) && (a.i == b.i) && (a.j == b.j)) (a.k == b.k) h in
+    let second = and_parts ((a.place == b.place) && (a.i == b.i)) (a.j == b.j) third.0 in
+    let first = and_parts (a.place == b.place) (a.i == b.i) second.0 in
     let p = eqb-true a.place b.place first.0 in
     let i = eqb-true a.i b.i first.1 in
     let j = eqb-true a.j b.j second.1 in

@@ -1,7 +1,7 @@
 -- What is read is in its form.
 use Rattle.std.proofs.Common.{◌≡◌, ℕ, zero, suc, ◌-◌, ◌<◌, ◌≤◌, Bool, true, false, cond, eqb, List, [], ◌∷◌, ◌++◌, length, slice_index, Option, None, Some, Result, Ok, Err, refl, sym, ap, subst, ◌∙◌, append_assoc, arith}
 use Rattle.std.proofs.lemmas.List.{append-nil}
-use Rattle.std.proofs.lemmas.Bool.{eq-eqb}
+use Rattle.std.proofs.lemmas.Bool.{and_parts, eq-eqb}
 use Rattle.std.proofs.Math.Seq.{take-append_seam, drop-append_seam}
 use Rattle.deck_lines.specs.declared.fault.LineFault.{LineFault}
 use Rattle.deck_lines.specs.declared.fault.LineKind.TheVariants as faults
@@ -14,7 +14,7 @@ use Rattle.deck_lines.specs.declared.statement.Statement.{Statement}
 use Rattle.deck_lines.specs.Words.{Piece, number_of}
 use Rattle.deck_lines.specs.LineFault.{◌>>=◌, fault}
 use Rattle.deck_lines.specs.Statements.{year, case, plant, candidate, group, project, period, fuel, shape, layout_of, head_of, word_of, index_of, allows, allows_each, are_groups, is_named, is_name, is_rule, number_in, number_at, fields_onto, groups_onto, name_at, statement_of, headed, is_statement, IsStatement}
-use Rattle.deck_lines.proofs.Ranges.{both, allows_each-length}
+use Rattle.deck_lines.proofs.Ranges.{allows_each-length}
 
 abbrev pub done : {A : Type 0} → A → Result A LineFault
 done x = Ok x
@@ -107,15 +107,15 @@ none (n ∷ ns) h = absurd cc
 
 one : (a : Kind) (index : List ℕ) → allows_each (a ∷ []) index ≡ true → slice_index index 0 ∷ [] ≡ index
 one a [] h = absurd cc
-one a (n ∷ ns) h = ap (λ (t : List ℕ). n ∷ t) (none ns (both (allows a n) (allows_each [] ns) h).1)
+one a (n ∷ ns) h = ap (λ (t : List ℕ). n ∷ t) (none ns (and_parts (allows a n) (allows_each [] ns) h).1)
 
 two : (a b : Kind) (index : List ℕ) → allows_each (a ∷ b ∷ []) index ≡ true → slice_index index 0 ∷ slice_index index 1 ∷ [] ≡ index
 two a b [] h = absurd cc
-two a b (n ∷ ns) h = ap (λ (t : List ℕ). n ∷ t) (one b ns (both (allows a n) (allows_each (b ∷ []) ns) h).1)
+two a b (n ∷ ns) h = ap (λ (t : List ℕ). n ∷ t) (one b ns (and_parts (allows a n) (allows_each (b ∷ []) ns) h).1)
 
 three : (a b d : Kind) (index : List ℕ) → allows_each (a ∷ b ∷ d ∷ []) index ≡ true → slice_index index 0 ∷ slice_index index 1 ∷ slice_index index 2 ∷ [] ≡ index
 three a b d [] h = absurd cc
-three a b d (n ∷ ns) h = ap (λ (t : List ℕ). n ∷ t) (two b d ns (both (allows a n) (allows_each (b ∷ d ∷ []) ns) h).1)
+three a b d (n ∷ ns) h = ap (λ (t : List ℕ). n ∷ t) (two b d ns (and_parts (allows a n) (allows_each (b ∷ d ∷ []) ns) h).1)
 
 pub index_of-head_of : (word : HeadWord) (index : List ℕ) → allows_each (layout_of word).index index ≡ true → index_of (head_of word index) ≡ index
 index_of-head_of words.Years index h = none index h

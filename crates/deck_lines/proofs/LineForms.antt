@@ -3,7 +3,7 @@ use Rattle.std.proofs.Common.{◌≡◌, ℕ, zero, suc, ◌+◌, ◌-◌, ◌^�
 use Rattle.std.specs.Prelude.{codes, slice_index, All}
 use Rattle.std.specs.Str.{bytes_eq}
 use Rattle.std.proofs.lemmas.List.{append-nil}
-use Rattle.std.proofs.lemmas.Bool.{eqb-true}
+use Rattle.std.proofs.lemmas.Bool.{and_parts, eqb-true}
 use Rattle.std.proofs.lemmas.List.Elements.{All-nil, All-cons}
 use Rattle.deck_lines.specs.declared.fault.LineFault.{LineFault}
 use Rattle.deck_lines.specs.declared.fault.LineError.{LineError}
@@ -21,7 +21,7 @@ use Rattle.deck_lines.specs.Words.{Piece, number_of}
 use Rattle.deck_lines.specs.LineFault.{◌>>=◌, fault, Gives}
 use Rattle.deck_lines.specs.Statements.{Layout, laid_out, repeated, case, year, layout_of, head_of, head_word_of, headed, allows, allows_each, are_groups, number_at, fields_onto, groups_onto}
 use Rattle.deck_lines.specs.Grammar.{number, count, ended, number_then, dropped, drop_line, counts_onto, AreCounts, value_at, come_line, chosen_line, single_line, behind, begun, has_statements, line_word_of, bad_byte, past_bytes, text_line, IsHead, IsLine}
-use Rattle.deck_lines.proofs.Ranges.{both, within}
+use Rattle.deck_lines.proofs.Ranges.{within}
 use Rattle.deck_lines.proofs.InForms.{bind_ok, guard_ok, ok_is, number_fits, fields_fit, groups_fit, headed_fits, word_of-head_of, index_of-head_of}
 
 -- ---- counts
@@ -47,8 +47,8 @@ groups_bounded least zero [] e = no_counts least zero (omega (arith, eqb-true le
 groups_bounded least zero (n ∷ ns) e = absurd cc
 groups_bounded least (suc more) [] e = no_counts least (suc more) (omega (arith, eqb-true least 0 e))
 groups_bounded least (suc more) (n ∷ ns) e =
-    let b = both (allows_each (count ∷ []) (n ∷ [])) (are_groups (count ∷ []) (least - 1) more ns) e in
-    one_count least more n ns (both (allows count n) true b.0).0 (groups_bounded (least - 1) more ns b.1)
+    let b = and_parts (allows_each (count ∷ []) (n ∷ [])) (are_groups (count ∷ []) (least - 1) more ns) e in
+    one_count least more n ns (and_parts (allows count n) true b.0).0 (groups_bounded (least - 1) more ns b.1)
 
 record GainsCounts (least most : ℕ) (before after : List ℕ) : Type 0 where
   gained : List ℕ

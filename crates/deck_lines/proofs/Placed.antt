@@ -4,6 +4,7 @@ use Rattle.std.specs.Prelude.{filter, fold}
 use Rattle.std.specs.Option.{option_copied}
 use Rattle.std.proofs.lemmas.List.{drop_more, set_split, reverse-append, reverse-reverse}
 use Rattle.std.proofs.lemmas.List.Sums.{fold-append}
+use Rattle.std.proofs.lemmas.Bool.{and_parts}
 use Rattle.deck_lines.specs.declared.head.Head.{Head}
 use Rattle.deck_lines.specs.declared.line.Line.{Line}
 use Rattle.deck_lines.specs.declared.line.Line.TheVariants as lines
@@ -11,7 +12,6 @@ use Rattle.deck_lines.specs.declared.statement.Statement.{Statement}
 use Rattle.deck_lines.specs.Body.{BodyParts}
 use Rattle.deck_lines.specs.Statements.{same_head, is_statement}
 use Rattle.deck_lines.specs.Deck.{looking_back, has_head, is_deck, put, without, body_of, changed, DecksFollowScripts}
-use Rattle.deck_lines.proofs.Ranges.{both}
 use Rattle.deck_lines.proofs.EqualHeads.{same_head-true, same_head-self}
 
 -- ---- where a statement is put
@@ -47,8 +47,8 @@ has_head-put (t ∷ deck) s h none other =
 
 deck_parts : (s : Statement) (deck : List Statement) → is_deck (s ∷ deck) ≡ true → (is_statement s ≡ true) × (has_head s.head deck ≡ false) × (is_deck deck ≡ true)
 deck_parts s deck h =
-    let a = both (is_statement s && not (has_head s.head deck)) (is_deck deck) h in
-    let b = both (is_statement s) (not (has_head s.head deck)) a.0 in
+    let a = and_parts (is_statement s && not (has_head s.head deck)) (is_deck deck) h in
+    let b = and_parts (is_statement s) (not (has_head s.head deck)) a.0 in
     (b.0, was_false (has_head s.head deck) b.1, a.1)
 
 deck_whole : (s : Statement) (deck : List Statement) → is_statement s ≡ true → has_head s.head deck ≡ false → is_deck deck ≡ true → is_deck (s ∷ deck) ≡ true

@@ -3,7 +3,7 @@ use Rattle.std.proofs.Common.{◌≡◌, ℕ, zero, suc, ◌+◌, ◌-◌, ◌*�
 use Rattle.std.specs.Prelude.{nat_le, nat_lt, decimal}
 use Rattle.std.specs.List.{list_all}
 use Rattle.std.proofs.lemmas.Bool.Decides.{nat_tests}
-use Rattle.std.proofs.lemmas.Bool.{eqb-true, leb-true}
+use Rattle.std.proofs.lemmas.Bool.{and_parts, eqb-true, leb-true}
 use Rattle.std.proofs.lemmas.List.{append-nil, map-append, length-append, take-append-drop}
 use Rattle.deck_lines.specs.declared.fault.LineFault.{LineFault}
 use Rattle.deck_lines.specs.declared.form.Kind.{Kind}
@@ -19,7 +19,7 @@ use Rattle.deck_lines.specs.Words.{Piece}
 use Rattle.deck_lines.specs.LineFault.{◌>>=◌}
 use Rattle.deck_lines.specs.Statements.{layout_of, spelling_of, head_of, word_of, index_of, allows, allows_each, are_groups, is_named, number_at, fields_onto, groups_onto, name_at, statement_of, is_statement, IsStatement}
 use Rattle.deck_lines.specs.Canonical.{name_words, words_behind}
-use Rattle.deck_lines.proofs.Ranges.{both, within, allows_each-length}
+use Rattle.deck_lines.proofs.Ranges.{within, allows_each-length}
 use Rattle.deck_lines.proofs.Texts.{is_plain, placed, past, placed-append, number_of-decimal}
 
 -- ---- numbers of at most ten digits
@@ -47,8 +47,8 @@ fields_short [] [] s h = tt
 fields_short [] (n ∷ ns) s h = absurd cc
 fields_short (kind ∷ ks) [] s h = tt
 fields_short (kind ∷ ks) (n ∷ ns) s h =
-    let p = both (is_short kind) (list_all is_short ks) s in
-    let q = both (allows kind n) (allows_each ks ns) h in
+    let p = and_parts (is_short kind) (list_all is_short ks) s in
+    let q = and_parts (allows kind n) (allows_each ks ns) h in
     (short_number kind n p.0 q.0, fields_short ks ns p.1 q.1)
 
 -- a group and the groups behind it
@@ -61,7 +61,7 @@ record Split (ks : List Kind) (least more : ℕ) (ns : List ℕ) : Type 0 where
 
 split : (ks : List Kind) (least more n : ℕ) (ns : List ℕ) → are_groups ks least (suc more) (n ∷ ns) ≡ true → Split ks least more (n ∷ ns)
 split ks least more n ns h =
-    let p = both (allows_each ks (take (length ks) (n ∷ ns))) (are_groups ks (least - 1) more (drop (length ks) (n ∷ ns))) h in
+    let p = and_parts (allows_each ks (take (length ks) (n ∷ ns))) (are_groups ks (least - 1) more (drop (length ks) (n ∷ ns))) h in
     record { one = take (length ks) (n ∷ ns); others = drop (length ks) (n ∷ ns); whole = sym (take-append-drop (length ks) (n ∷ ns)); fits = p.0; rest = p.1 }
 
 pub groups_short : (ks : List Kind) (least most : ℕ) (ns : List ℕ) → list_all is_short ks ≡ true → are_groups ks least most ns ≡ true → AreShort ns
@@ -92,7 +92,7 @@ fields_back [] [] before end column more s h = ap (λ (t : List ℕ). Ok (t, mor
 fields_back [] (n ∷ ns) before end column more s h = absurd cc
 fields_back (kind ∷ ks) [] before end column more s h = absurd cc
 fields_back (kind ∷ ks) (n ∷ ns) before end column more s h =
-    let q = both (allows kind n) (allows_each ks ns) h in
+    let q = and_parts (allows kind n) (allows_each ks ns) h in
     rw (number_back kind (column + 1) n s.0 q.0) (fields_back ks ns (before ++ n ∷ []) end (column + 1 + length (decimal n)) more s.1 q.1 ∙ ap (λ (t : List ℕ). Ok (t, more)) (append_assoc before (n ∷ []) ns))
 
 group_step : (ks : List Kind) (least more n : ℕ) (ns before : List ℕ) (end column : ℕ) → groups_onto before end ks least (suc more) (placed column (map decimal (n ∷ ns))) ≡ (fields_onto before end ks (placed column (map decimal (n ∷ ns))) >>= λ one. groups_onto one.0 end ks (least - 1) more one.1)
@@ -226,8 +226,8 @@ pub parts : (s : Statement) → IsStatement s → Parts s
 unfolding is_statement
 parts s h =
     let form = layout_of (word_of s.head) in
-    let a = both (allows_each form.index (index_of s.head) && is_named form.naming s.body.name) (are_groups form.group form.least form.most s.body.numbers) h in
-    let b = both (allows_each form.index (index_of s.head)) (is_named form.naming s.body.name) a.0 in
+    let a = and_parts (allows_each form.index (index_of s.head) && is_named form.naming s.body.name) (are_groups form.group form.least form.most s.body.numbers) h in
+    let b = and_parts (allows_each form.index (index_of s.head)) (is_named form.naming s.body.name) a.0 in
     record { index = b.0; name = b.1; numbers = a.1 }
 
 three_placed : (column : ℕ) (us vs ws : List (List ℕ)) → placed column (us ++ (vs ++ ws)) ≡ placed column us ++ (placed (past column us) vs ++ placed (past (past column us) vs) ws)

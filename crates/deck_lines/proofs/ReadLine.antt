@@ -1,10 +1,10 @@
 -- The line of the text of a statement.
-use Rattle.std.proofs.Common.{◌≡◌, ◌==◌, ℕ, ◌+◌, ◌*◌, ◌≤◌, Bool, true, false, ◌&&◌, ◌||◌, List, [], ◌∷◌, ◌++◌, length, map, None, Some, Ok, refl, sym, ap, subst, ◌∙◌, append_assoc, arith, inl, inr}
-use Rattle.std.specs.Prelude.{◌⊎◌, nat_le, nat_lt, codes, decimal, slice_index}
+use Rattle.std.proofs.Common.{◌≡◌, ◌==◌, ℕ, ◌+◌, ◌*◌, ◌≤◌, true, false, ◌&&◌, List, [], ◌∷◌, ◌++◌, length, map, None, Some, Ok, refl, sym, ap, subst, ◌∙◌, append_assoc, arith, inl, inr}
+use Rattle.std.specs.Prelude.{nat_le, nat_lt, codes, decimal, slice_index}
 use Rattle.std.specs.List.{list_all}
 use Rattle.std.specs.Str.{bytes_eq}
 use Rattle.std.proofs.lemmas.Bool.Decides.{nat_tests}
-use Rattle.std.proofs.lemmas.Bool.{eqb-true, leb-true}
+use Rattle.std.proofs.lemmas.Bool.{and_parts, eqb-true, leb-true, or_cases}
 use Rattle.std.proofs.lemmas.List.{length-append}
 use Rattle.std.proofs.lemmas.Slice.Eq.{bytes_eq-Decides}
 use Rattle.deck_lines.specs.declared.form.Naming.{Naming}
@@ -18,7 +18,7 @@ use Rattle.deck_lines.specs.declared.statement.Statement.{Statement}
 use Rattle.deck_lines.specs.Statements.{layout_of, spelling_of, head_word_of, word_of, index_of, is_named, is_name_byte, IsStatement}
 use Rattle.deck_lines.specs.Grammar.{line_word_of, has_statements, bad_byte, text_line, line_of}
 use Rattle.deck_lines.specs.Canonical.{spaced, name_words, words_behind, text_of, StatementsReadBack}
-use Rattle.deck_lines.proofs.Ranges.{both, allows_each-length}
+use Rattle.deck_lines.proofs.Ranges.{allows_each-length}
 use Rattle.deck_lines.proofs.Texts.{is_plain, IsPlain, ArePlain, ArePlain-append, placed, all_words, text_line_bytes, bad_byte-none, less_return-same, decimal_plain, decimal_short}
 use Rattle.deck_lines.proofs.ReadBack.{AreShort, fields_short, groups_short, groups_length, suit, parts, statement_back}
 
@@ -34,7 +34,7 @@ name_byte_plain b h = grind (arith, nat_tests)
 
 name_bytes_plain : (bs : List ℕ) → list_all is_name_byte bs ≡ true → list_all is_plain bs ≡ true
 name_bytes_plain [] h = refl
-name_bytes_plain (b ∷ bs) h = let p = both (is_name_byte b) (list_all is_name_byte bs) h in rw (name_byte_plain b p.0, name_bytes_plain bs p.1) refl
+name_bytes_plain (b ∷ bs) h = let p = and_parts (is_name_byte b) (list_all is_name_byte bs) h in rw (name_byte_plain b p.0, name_bytes_plain bs p.1) refl
 
 -- a name that may stand in a line
 record IsWritten (name : List ℕ) : Type 0 where
@@ -44,10 +44,6 @@ record IsWritten (name : List ℕ) : Type 0 where
 written : (b : ℕ) (bs : List ℕ) → list_all is_plain (b ∷ bs) ≡ true → length (b ∷ bs) ≤ 8 → IsWritten (b ∷ bs)
 unfolding ArePlain
 written b bs plain short = record { plain = (record { some = omega arith; bytes = plain }, tt); short = short }
-
-either : (a b : Bool) → (a || b) ≡ true → (a ≡ true) ⊎ (b ≡ true)
-either true b h = inl refl
-either false b h = inr h
 
 same_bytes : (xs ys : List ℕ) → bytes_eq xs ys ≡ true → xs ≡ ys
 same_bytes xs ys h = grind (arith, bytes_eq-Decides xs ys)
@@ -66,11 +62,11 @@ name_written naming.Unnamed [] h = record { plain = tt; short = omega arith }
 name_written naming.Unnamed (b ∷ bs) h = absurd (omega (arith, eqb-true (length (b ∷ bs)) 0 h))
 name_written naming.Named [] h = absurd cc
 name_written naming.Named (b ∷ bs) h =
-    let p = both (nat_le 1 (length (b ∷ bs)) && nat_le (length (b ∷ bs)) 8) (list_all is_name_byte (b ∷ bs)) h in
-    let q = both (nat_le 1 (length (b ∷ bs))) (nat_le (length (b ∷ bs)) 8) p.0 in
+    let p = and_parts (nat_le 1 (length (b ∷ bs)) && nat_le (length (b ∷ bs)) 8) (list_all is_name_byte (b ∷ bs)) h in
+    let q = and_parts (nat_le 1 (length (b ∷ bs))) (nat_le (length (b ∷ bs)) 8) p.0 in
     written b bs (name_bytes_plain (b ∷ bs) p.1) (leb-true _ _ q.1)
 name_written naming.Rule name h =
-    elim (either (bytes_eq name (codes "MERIT")) (bytes_eq name (codes "BASE")) h) [
+    elim (or_cases (bytes_eq name (codes "MERIT")) (bytes_eq name (codes "BASE")) h) [
       | inl e ↦ subst IsWritten (sym (same_bytes name (codes "MERIT") e)) merit
       | inr e ↦ subst IsWritten (sym (same_bytes name (codes "BASE") e)) base
     ]
@@ -203,7 +199,7 @@ spelled_back words.Grid = refl
 
 -- ---- the line
 
-below_limit : (n : ℕ) → n ≤ 4096 → nat_lt 4096 n ≡ false
+pub below_limit : (n : ℕ) → n ≤ 4096 → nat_lt 4096 n ≡ false
 below_limit n h = grind (arith, nat_tests)
 
 -- what the text of a statement is made of

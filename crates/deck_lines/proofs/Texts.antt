@@ -5,11 +5,11 @@ use Rattle.std.specs.List.{list_all}
 use Rattle.std.proofs.lemmas.Bool.Decides.{nat_tests}
 use Rattle.std.proofs.lemmas.List.Folds.{list_all-append}
 use Rattle.std.proofs.lemmas.Fmt.{decimal_by_steps, decimal_nonempty, length-decimal-le}
+use Rattle.std.proofs.lemmas.Bool.{and_parts}
 use Rattle.deck_lines.specs.Words.{Piece, is_space, is_digit, words_from, number_after, number_of, IsWord}
 use Rattle.deck_lines.specs.Grammar.{is_line_byte, bad_byte, less_return}
 use Rattle.deck_lines.specs.Canonical.{spaced}
 use Rattle.deck_lines.proofs.Bytewise.{IsParted, word_at}
-use Rattle.deck_lines.proofs.Ranges.{both}
 
 -- ---- bytes
 
@@ -27,7 +27,7 @@ plain_no_space b h = grind (arith, nat_tests)
 
 plain_word : (w : List ℕ) → list_all is_plain w ≡ true → IsWord w
 plain_word [] h = tt
-plain_word (b ∷ bs) h = let p = both (is_plain b) (list_all is_plain bs) h in (plain_no_space b p.0, plain_word bs p.1)
+plain_word (b ∷ bs) h = let p = and_parts (is_plain b) (list_all is_plain bs) h in (plain_no_space b p.0, plain_word bs p.1)
 
 or-true : (b : Bool) → (b || true) ≡ true
 or-true true = refl
@@ -35,19 +35,19 @@ or-true false = refl
 
 plain_line : (w : List ℕ) → list_all is_plain w ≡ true → list_all is_line_byte w ≡ true
 plain_line [] h = refl
-plain_line (b ∷ bs) h = let p = both (is_plain b) (list_all is_plain bs) h in rw (p.0, or-true (is_space b), plain_line bs p.1) refl
+plain_line (b ∷ bs) h = let p = and_parts (is_plain b) (list_all is_plain bs) h in rw (p.0, or-true (is_space b), plain_line bs p.1) refl
 
 pub bad_byte-none : (column : ℕ) (text : List ℕ) → list_all is_line_byte text ≡ true → bad_byte column text ≡ None
 bad_byte-none column [] h = refl
-bad_byte-none column (b ∷ bs) h = let p = both (is_line_byte b) (list_all is_line_byte bs) h in rw (p.0, bad_byte-none (column + 1) bs p.1) refl
+bad_byte-none column (b ∷ bs) h = let p = and_parts (is_line_byte b) (list_all is_line_byte bs) h in rw (p.0, bad_byte-none (column + 1) bs p.1) refl
 
 no_return : (b : ℕ) → is_line_byte b ≡ true → (b == 13) ≡ false
 no_return b h = grind (arith, nat_tests)
 
 return_nowhere : (text : List ℕ) (i : ℕ) → list_all is_line_byte text ≡ true → (slice_index text i == 13) ≡ false
 return_nowhere [] i h = refl
-return_nowhere (b ∷ bs) zero h = no_return b (both (is_line_byte b) (list_all is_line_byte bs) h).0
-return_nowhere (b ∷ bs) (suc i) h = return_nowhere bs i (both (is_line_byte b) (list_all is_line_byte bs) h).1
+return_nowhere (b ∷ bs) zero h = no_return b (and_parts (is_line_byte b) (list_all is_line_byte bs) h).0
+return_nowhere (b ∷ bs) (suc i) h = return_nowhere bs i (and_parts (is_line_byte b) (list_all is_line_byte bs) h).1
 
 pub less_return-same : (text : List ℕ) → list_all is_line_byte text ≡ true → less_return text ≡ text
 less_return-same text h = rw (return_nowhere text (length text - 1) h) refl
@@ -112,9 +112,9 @@ number_after-append m n (d ∷ ds) es e = after_digit (is_digit d) (number_after
     after_digit false short long n end e h = absurd cc
 
 -- digits that spell a number
-record Spells (n : ℕ) (ds : List ℕ) : Type 0 where
-  value : number_after 0 ds ≡ Some n
-  bytes : list_all is_plain ds ≡ true
+pub record Spells (n : ℕ) (ds : List ℕ) : Type 0 where
+  pub value : number_after 0 ds ≡ Some n
+  pub bytes : list_all is_plain ds ≡ true
 
 digit_true : (d : ℕ) → d < 10 → is_digit (48 + d) ≡ true
 digit_true d h = grind (arith, nat_tests)
@@ -137,7 +137,7 @@ spells_more n ds h s =
       bytes = list_all-append is_plain ds ((48 + n % 10) ∷ []) ∙ rw (s.bytes, digit_plain (n % 10) low) refl;
     }
 
-spells : (n : ℕ) → n < 2 ^ 64 → Spells n (decimal n)
+pub spells : (n : ℕ) → n < 2 ^ 64 → Spells n (decimal n)
 spells n h = decimal_by_steps Spells spells_digit spells_more n h
 
 pub number_of-decimal : (n : ℕ) → n < 10 ^ 10 → number_of (decimal n) ≡ Some n

@@ -1,8 +1,9 @@
 -- The curve between two neighbouring points of a shape, over plain numbers.
 use Rattle.std.proofs.Common.{◌≡◌, ℕ, ◌+◌, ◌-◌, ◌*◌, ◌/◌, ◌<◌, ◌≤◌, arith, ap, inl, inr}
-use Rattle.std.proofs.Math.Nat.{mul-le-mul_left, mul-le-mul_right, div-le_of_le-mul, div-mul-le_self, le-div_iff_mul-le}
+use Rattle.std.proofs.Math.Nat.{mul-le-mul_left, mul-le-mul_right, div-le_of_le-mul}
 use Rattle.std.proofs.lemmas.Bool.{cases_lt}
 use Rattle.plant_data.specs.declared.shape.Point.{Point}
+use Rattle.wasp_fixed.proofs.Floors.{div-le-div}
 use Rattle.load_curves.specs.LoadCurve.{between}
 
 -- two loads with one between them are apart
@@ -35,9 +36,6 @@ pub between-high : (low high : Point) (peak load : ℕ) → high.share ≤ low.s
 between-high low high peak load falls from to =
     let f = fall-le (low.share * 100000 - high.share * 100000) low.load high.load peak load from to in
     omega (arith, f)
-
-div-le-div : (m n k : ℕ) → 0 < k → m ≤ n → m / k ≤ n / k
-div-le-div m n k some le = (le-div_iff_mul-le some).1 (omega (arith, div-mul-le_self m k))
 
 -- a greater load has no greater share
 pub between-falls : (low high : Point) (peak load more : ℕ) → low.load * peak ≤ load → load ≤ more → more < high.load * peak → between low high peak more ≤ between low high peak load

@@ -1,5 +1,5 @@
 -- Blocks of one list of units that tie are one block.
-use Rattle.std.proofs.Common.{◌≡◌, ℕ, ◌-◌, ◌+◌, ◌<◌, ◌++◌, List, [], ◌∷◌, length, get_or, sym, ap, ◌∙◌, arith, true, false, cond, refl, suc, nat_lt, Ordering, is_lt, zero-add}
+use Rattle.std.proofs.Common.{◌≡◌, ℕ, ◌-◌, ◌+◌, ◌<◌, List, [], ◌∷◌, length, get_or, sym, ap, ◌∙◌, arith, true, false, cond, refl, suc, nat_lt, Ordering, is_lt, zero-add}
 use Rattle.std.specs.List.{flat_map, enumerate_from, AllByRecursion}
 use Rattle.std.specs.Ordering.{nat_cmp, ordering_reverse}
 use Rattle.std.specs.declared.cmp.Ordering.TheVariants.{Less, Equal, Greater}
@@ -7,6 +7,7 @@ use Rattle.std.specs.Cmp.Lexicographic.{slice_cmp, nat_list_cmp_total}
 use Rattle.std.specs.FinMap.{slice_cmp-IsAntisymmetric, nat_cmp-IsAntisymmetric}
 use Rattle.plant_data.specs.declared.plant.Unit.{Unit as Machine}
 use Rattle.plant_data.specs.declared.plant.Rule.{Rule}
+use Rattle.wasp_fixed.proofs.Lists.{all_append}
 use Rattle.loading_order.specs.declared.blocks.Block.{Block}
 use Rattle.loading_order.specs.declared.blocks.Kind.{Kind}
 use Rattle.loading_order.specs.declared.blocks.Kind.TheVariants.{Base, Peak}
@@ -22,10 +23,6 @@ block_at units i Peak = record { unit = i; kind = Peak; capacity = (get_or units
 pub record IsBlockOf (units : List Machine) (b : Block) : Type 0 where
   pub within : b.unit < length units
   pub is : b ≡ block_at units b.unit b.kind
-
-all_append : {X : Type 0} (P : X → Type 0) (xs ys : List X) → AllByRecursion P xs → AllByRecursion P ys → AllByRecursion P (xs ++ ys)
-all_append P [] ys a b = b
-all_append P (x ∷ xs) ys a b = (a.0, all_append P xs ys a.1 b)
 
 blocks_of_one : (units : List Machine) (n : ℕ) (u : Machine) → n < length units → get_or units n no_unit ≡ u → AllByRecursion (IsBlockOf units) (unit_blocks n u)
 blocks_of_one units n u h e =

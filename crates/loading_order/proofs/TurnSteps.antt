@@ -1,5 +1,5 @@
 -- Steps of the loops that written units in their turns.
-use Rattle.std.proofs.Common.{◌≡◌, ℕ, ◌+◌, ◌*◌, ◌<◌, ◌≤◌, ◌++◌, ◌==◌, ◌⊎◌, List, [], ◌∷◌, length, map, get_or, take, drop, set, sym, ap, ◌∙◌, arith, refl, subst, ⊎_elim, inl, inr, true, false, cond, zero-add, is_lt, ◌^◌}
+use Rattle.std.proofs.Common.{◌≡◌, ℕ, ◌+◌, ◌*◌, ◌<◌, ◌≤◌, ◌++◌, ◌==◌, ◌⊎◌, List, [], ◌∷◌, length, map, get_or, take, drop, set, sym, ap, ◌∙◌, arith, refl, subst, ⊎_elim, inl, inr, true, false, cond, is_lt, ◌^◌}
 use Rattle.std.specs.List.{range_with_len, All, zip}
 use Rattle.std.specs.List.Sorted.{IsPermutation}
 use Rattle.std.specs.Ordering.{nat_cmp}
@@ -7,9 +7,9 @@ use Rattle.std.specs.Cmp.Lexicographic.{slice_cmp, nat_list_cmp_total}
 use Rattle.std.proofs.lemmas.Bool.{cases_eq, cases_lt, ne_eqb}
 use Rattle.std.proofs.Math.Nat.{mul-le-mul_right}
 use Rattle.std.proofs.Common.{eq-eqb}
-use Rattle.std.proofs.lemmas.List.{take_more, drop_more, length-take-le, append_assoc, get_or-map, map-id, length-map, at_drop_more, set_at, get_or_at, map_more}
+use Rattle.std.proofs.lemmas.List.{take_more, drop_more, length-take-le, append_assoc, get_or-map, length-map, at_drop_more, set_at, get_or_at, map_more}
 use Rattle.std.proofs.lemmas.Slice.Zip.{get_or-zip, length-zip}
-use Rattle.std.proofs.lemmas.List.FromFn.{map-range_with_len_more, get_or-range_with_len, length-range_with_len}
+use Rattle.std.proofs.lemmas.List.FromFn.{get_or-range_with_len, length-range_with_len}
 use Rattle.std.proofs.lemmas.List.Sorted.{ranks_by, All-permutation}
 use Rattle.plant_data.specs.declared.plant.Unit.{Unit as Machine}
 use Rattle.loading_order.specs.declared.periods.Period.{Period}
@@ -18,9 +18,6 @@ use Rattle.loading_order.specs.Maintenance.{turn_key, turns, open_again, place_h
 use Rattle.loading_order.proofs.Written.{written, hours_of}
 use Rattle.loading_order.proofs.InOrder.{in_order_is, all_from_places}
 use Rattle.loading_order.proofs.SameBlock.{tied_keys}
-
-pub range_more : (n : ℕ) → range_with_len 0 (n + 1) ≡ range_with_len 0 n ++ n ∷ []
-range_more n = sym (map-id (range_with_len 0 (n + 1))) ∙ (map-range_with_len_more (λ x. x) 0 n n (zero-add n) ∙ ap (λ xs. xs ++ n ∷ []) (map-id (range_with_len 0 n)))
 
 pub places_within : (n : ℕ) → All (λ i. i < n) (range_with_len 0 n)
 places_within n = λ k d h.

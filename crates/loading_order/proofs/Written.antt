@@ -2,8 +2,7 @@
 use Rattle.std.proofs.Common.{◌≡◌, ℕ, zero, suc, ◌+◌, ◌-◌, ◌<◌, ◌≤◌, List, [], ◌∷◌, get_or, map, sym, ap, ◌∙◌, arith, refl, ◌==◌, true, false, cond, ⊎_elim, eq-eqb}
 use Rattle.std.specs.List.{range_with_len, count_by}
 use Rattle.std.specs.List.Sorted.{IsPermutation}
-use Rattle.std.proofs.lemmas.Bool.{cases_eq, ne_eqb}
-use Rattle.std.proofs.lemmas.Bool.Decides.{eqb_tells}
+use Rattle.std.proofs.lemmas.Bool.{cases_eq, eqb-true, ne_eqb}
 use Rattle.std.proofs.lemmas.List.Sorted.{sum_by-IsPermutation}
 use Rattle.std.proofs.Math.Nat.{div-le_of_le-mul, mul-le-mul_left}
 use Rattle.wasp_fixed.specs.declared.numbers.TheConstants.{M}
@@ -28,9 +27,6 @@ written H units (i ∷ later) periods so_far unit period =
 -- how many turns a unit has
 abbrev pub times : ℕ → List ℕ → ℕ
 times u places = count_by (λ i. u == i) places
-
-same_place : (u i : ℕ) → (u == i) ≡ true → u ≡ i
-same_place u i e = ⊎_elim (λ t. t.1) (λ t. absurd (cc (e, t.0))) (eqb_tells u i)
 
 -- a unit without a turn keeps its row
 written_none : (H : ℕ) (units : List Machine) (places : List ℕ) (ps : List Period) (f : ℕ → ℕ → ℕ) (u m : ℕ) → times u places ≡ 0 → written H units places ps f u m ≡ f u m
@@ -62,7 +58,7 @@ written_once H units (i ∷ later) ps f u m e =
           let o : one_if (u == i) ≡ one_if true = ap one_if q in
           written_none H units later after next u m (omega (arith, e, c, o))
           ∙ (ap (λ b. cond b (now m) (f u m)) q
-          ∙ ap (λ j. availability (get_or units j no_unit).outage (get_or (hours_of H v ps) m 0) H) (sym (same_place u i q)))
+          ∙ ap (λ j. availability (get_or units j no_unit).outage (get_or (hours_of H v ps) m 0) H) (sym (eqb-true u i q)))
       | false ↦ λ q. let o : one_if (u == i) ≡ one_if false = ap one_if q in written_once H units later after next u m (omega (arith, e, c, o))
     ] refl
 

@@ -1,5 +1,5 @@
 -- Names and layers that stand in the same order.
-use Rattle.std.proofs.Common.{◌≡◌, ◌≢◌, ◌↔◌, ℕ, zero, suc, ◌+◌, ◌<◌, ◌≤◌, List, [], ◌∷◌, length, get_or, map, All, Contains, Option, Some, None, sym, ap, ◌∙◌, arith, refl, subst, true≢false, ⊎_elim, inl, inr, ◌⊎◌}
+use Rattle.std.proofs.Common.{◌≡◌, ◌≢◌, ℕ, zero, suc, ◌+◌, ◌<◌, List, [], ◌∷◌, length, get_or, map, Contains, Option, Some, None, sym, ap, ◌∙◌, arith, refl, subst, true≢false, ⊎_elim, ◌⊎◌}
 use Rattle.std.proofs.Math.ListN.{get_or-map}
 use Rattle.std.proofs.lemmas.Bool.{cases_eq, cases_lt}
 use Rattle.std.proofs.lemmas.List.{get_or_default, get_or_past, length-map}
@@ -7,17 +7,17 @@ use Rattle.std.proofs.lemmas.Cmp.{nat_list_cmp_total}
 use Rattle.std.proofs.lemmas.Option.{none-some}
 use Rattle.std.specs.Cmp.Lexicographic.{slice_cmp}
 use Rattle.std.specs.Ordering.{is_lt, nat_cmp, ordering_reverse}
-use Rattle.std.specs.declared.cmp.Ordering.TheVariants.{Less, Equal, Greater}
+use Rattle.std.specs.declared.cmp.Ordering.TheVariants.{Less}
 use Rattle.plant_data.specs.Configs.{IsAtMost}
 use Rattle.cost_terms.specs.Cost.{nothing_built}
-use Rattle.cost_terms.specs.Table.{IsTable, Rises, Table}
+use Rattle.cost_terms.specs.Table.{IsTable, Table}
 use Rattle.cost_terms.specs.declared.entries.Scored.{Scored}
 use Rattle.plan_program.specs.Plans.{configs, entry_at, layer_at, no_entry}
 use Rattle.plan_program.proofs.Forward.{contains_at, place_of}
-use Rattle.plan_certificate.specs.Certificate.{AreBounds, CertData, IsAccepted, IsCertificate, NamesAccepted, NamesRise, NoneAfterNone, Precedes, Says, named_in}
-use Rattle.plan_certificate.specs.Steps.{AreAligned, ArrivalKeeps, KeepsFrom, RuleHolds, StepKeeps, YearsKeep, arrival, name_at, names_of, no_name}
+use Rattle.wasp_fixed.proofs.Lists.{contains_cases, contains_tail, list_ext}
+use Rattle.plan_certificate.specs.Certificate.{AreBounds, CertData, IsAccepted, IsCertificate, NamesAccepted, NoneAfterNone, Precedes, Says, named_in}
+use Rattle.plan_certificate.specs.Steps.{AreAligned, ArrivalKeeps, RuleHolds, StepKeeps, YearsKeep, arrival, name_at, names_of, no_name}
 use Rattle.plan_certificate.specs.declared.certificate.Named.{Named}
-use Rattle.plan_certificate.specs.declared.steps.Arrival.{Arrival}
 use Rattle.plan_certificate.specs.declared.steps.Rule.{Rule}
 use Rattle.plan_certificate.specs.declared.steps.Rule.TheVariants.{Bounded, Reached}
 
@@ -38,18 +38,8 @@ rises_tail d f x xs r i j h b = r (suc i) (suc j) (omega (arith, h)) (omega (ari
 above_head : {X : Type 0} (d : X) (f : X → List ℕ) (x : X) (xs : List X) (z : X) → RisesBy d f (x ∷ xs) → Contains xs z → slice_cmp nat_cmp (f x) (f z) ≡ Less
 above_head d f x xs z r (k, b, e) = subst (λ y. slice_cmp nat_cmp (f x) (f y) ≡ Less) (get_or_default xs k d z b ∙ e) (r 0 (suc k) (omega arith) (omega (arith, b)))
 
-split_place : {X : Type 0} (x : X) (xs : List X) (z : X) (k : ℕ) → k < length (x ∷ xs) → get_or (x ∷ xs) k z ≡ z → (x ≡ z) ⊎ Contains xs z
-split_place x xs z zero b e = inl e
-split_place x xs z (suc k) b e = inr (k, omega (arith, b), e)
-
-pub split : {X : Type 0} (x : X) (xs : List X) (z : X) → Contains (x ∷ xs) z → (x ≡ z) ⊎ Contains xs z
-split x xs z (k, b, e) = split_place x xs z k b e
-
 pub contains_head : {X : Type 0} (x : X) (xs : List X) → Contains (x ∷ xs) x
 contains_head x xs = (0, omega arith, refl)
-
-pub contains_tail : {X : Type 0} (x : X) (xs : List X) (z : X) → Contains xs z → Contains (x ∷ xs) z
-contains_tail x xs z (k, b, e) = (suc k, omega (arith, b), e)
 
 pub none_in_none : {X : Type 0} (z : X) → Contains {X = X} [] z → ⊥
 none_in_none z (k, b, e) = omega (arith, b)
@@ -57,8 +47,8 @@ none_in_none z (k, b, e) = omega (arith, b)
 heads : {X : Type 0} (d : X) (f : X → List ℕ) (x y : X) (xs ys : List X) → RisesBy d f (x ∷ xs) → RisesBy d f (y ∷ ys) → Contains (y ∷ ys) x → Contains (x ∷ xs) y → x ≡ y
 heads d f x y xs ys r s a b =
     ⊎_elim (λ e. sym e)
-    (λ later. ⊎_elim (λ e. e) (λ also. absurd (no_both (f y) (f x) (above_head d f y ys x s later) (above_head d f x xs y r also))) (split x xs y b))
-    (split y ys x a)
+    (λ later. ⊎_elim (λ e. e) (λ also. absurd (no_both (f y) (f x) (above_head d f y ys x s later) (above_head d f x xs y r also))) (contains_cases x xs y b))
+    (contains_cases y ys x a)
 
 -- two lists that rise and have the same elements are one
 pub same_sorted : {X : Type 0} (d : X) (f : X → List ℕ) (xs ys : List X) → RisesBy d f xs → RisesBy d f ys → ((z : X) → Contains xs z → Contains ys z) → ((z : X) → Contains ys z → Contains xs z) → xs ≡ ys
@@ -68,9 +58,9 @@ same_sorted d f (x ∷ xs) [] r s a b = absurd (none_in_none x (a x (contains_he
 same_sorted {X} d f (x ∷ xs) (y ∷ ys) r s a b =
     let e : x ≡ y = heads d f x y xs ys r s (a x (contains_head x xs)) (b y (contains_head y ys)) in
     let one : (z : X) → Contains xs z → Contains ys z = λ z h.
-    ⊎_elim (λ same. absurd (no_less (f x) (subst (λ w. slice_cmp nat_cmp (f x) (f w) ≡ Less) (sym (e ∙ same)) (above_head d f x xs z r h)))) (λ g. g) (split y ys z (a z (contains_tail x xs z h))) in
+    ⊎_elim (λ same. absurd (no_less (f x) (subst (λ w. slice_cmp nat_cmp (f x) (f w) ≡ Less) (sym (e ∙ same)) (above_head d f x xs z r h)))) (λ g. g) (contains_cases y ys z (a z (contains_tail x xs z h))) in
     let two : (z : X) → Contains ys z → Contains xs z = λ z h.
-    ⊎_elim (λ same. absurd (no_less (f y) (subst (λ w. slice_cmp nat_cmp (f y) (f w) ≡ Less) (sym (sym e ∙ same)) (above_head d f y ys z s h)))) (λ g. g) (split x xs z (b z (contains_tail y ys z h))) in
+    ⊎_elim (λ same. absurd (no_less (f y) (subst (λ w. slice_cmp nat_cmp (f y) (f w) ≡ Less) (sym (sym e ∙ same)) (above_head d f y ys z s h)))) (λ g. g) (contains_cases x xs z (b z (contains_tail y ys z h))) in
     let rest : xs ≡ ys = same_sorted d f xs ys (rises_tail d f x xs r) (rises_tail d f y ys s) one two in
     λ i. e i ∷ rest i
 
@@ -81,16 +71,6 @@ same_place d f xs i j r b b' e =
     (λ below. absurd (no_less (f (get_or xs i d)) (subst (λ (y : List ℕ). slice_cmp nat_cmp (f (get_or xs i d)) y ≡ Less) (sym e) (r i j below b'))))
     (λ above. ⊎_elim (λ same. sym same) (λ other. absurd (no_less (f (get_or xs j d)) (subst (λ (y : List ℕ). slice_cmp nat_cmp (f (get_or xs j d)) y ≡ Less) e (r j i (omega (arith, above, other)) b)))) (cases_eq j i))
     (cases_lt i j)
-
--- two lists with the same elements at each place are one
-pub list_ext : {X : Type 0} (d : X) (xs ys : List X) → length xs ≡ length ys → ((k : ℕ) → k < length xs → get_or xs k d ≡ get_or ys k d) → xs ≡ ys
-list_ext d [] [] n e = refl
-list_ext d [] (y ∷ ys) n e = absurd (omega (arith, n))
-list_ext d (x ∷ xs) [] n e = absurd (omega (arith, n))
-list_ext {X} d (x ∷ xs) (y ∷ ys) n e =
-    let head : x ≡ y = e 0 (omega arith) in
-    let rest : xs ≡ ys = list_ext d xs ys (omega (arith, n)) (λ k h. e (suc k) (omega (arith, h))) in
-    λ i. head i ∷ rest i
 
 -- ---- entries of a table
 

@@ -7,8 +7,9 @@ use Rattle.std.proofs.lemmas.Grind.{flat_map-append}
 use Rattle.std.proofs.lemmas.List.{get_or_default, length-append}
 use Rattle.deck_lines.specs.declared.line.CertLine.{CertLine}
 use Rattle.deck_lines.specs.declared.line.CertLine.TheVariants.{Come, Chosen, Total, Infeasible}
+use Rattle.wasp_fixed.proofs.Lists.{contains_cases, contains_tail}
 use Rattle.plan_certificate.specs.Reading.{chosen_by, chosen_of, line_at, no_line}
-use Rattle.plan_certificate.proofs.Aligned.{contains_head, contains_tail, none_in_none, split}
+use Rattle.plan_certificate.proofs.Aligned.{contains_head, none_in_none}
 
 pub contains_front : {X : Type 0} (xs : List X) (x z : X) → Contains xs z → Contains (xs ++ x ∷ []) z
 contains_front xs x z (k, b, e) = (k, omega (arith, b, length-append xs (x ∷ [])), get_or-append xs (x ∷ []) z k b ∙ e)
@@ -74,15 +75,15 @@ chosen_line (Chosen y g ∷ xs) year config c =
     ⊎_elim
     (λ (e : (y, g) ≡ (year, config)). (0, omega arith, λ i. Chosen ((e i).0) ((e i).1)))
     (λ later. contains_tail (Chosen y g) xs (Chosen year config) (chosen_line xs year config later))
-    (split (y, g) (chosen_of xs) (year, config) c)
+    (contains_cases (y, g) (chosen_of xs) (year, config) c)
 
 pub line_chosen : (xs : List CertLine) (year : ℕ) (config : List ℕ) → Contains xs (Chosen year config) → Contains (chosen_of xs) (year, config)
 line_chosen [] year config c = absurd (none_in_none (Chosen year config) c)
-line_chosen (Come y g v ∷ xs) year config c = ⊎_elim (λ e. absurd (omega (arith, ap kind e))) (λ later. line_chosen xs year config later) (split (Come y g v) xs (Chosen year config) c)
-line_chosen (Total t ∷ xs) year config c = ⊎_elim (λ e. absurd (omega (arith, ap kind e))) (λ later. line_chosen xs year config later) (split (Total t) xs (Chosen year config) c)
-line_chosen (Infeasible y ∷ xs) year config c = ⊎_elim (λ e. absurd (omega (arith, ap kind e))) (λ later. line_chosen xs year config later) (split (Infeasible y) xs (Chosen year config) c)
+line_chosen (Come y g v ∷ xs) year config c = ⊎_elim (λ e. absurd (omega (arith, ap kind e))) (λ later. line_chosen xs year config later) (contains_cases (Come y g v) xs (Chosen year config) c)
+line_chosen (Total t ∷ xs) year config c = ⊎_elim (λ e. absurd (omega (arith, ap kind e))) (λ later. line_chosen xs year config later) (contains_cases (Total t) xs (Chosen year config) c)
+line_chosen (Infeasible y ∷ xs) year config c = ⊎_elim (λ e. absurd (omega (arith, ap kind e))) (λ later. line_chosen xs year config later) (contains_cases (Infeasible y) xs (Chosen year config) c)
 line_chosen (Chosen y g ∷ xs) year config c =
     ⊎_elim
     (λ e. (0, omega arith, λ i. (year_of (e i), config_of (e i))))
     (λ later. contains_tail (y, g) (chosen_of xs) (year, config) (line_chosen xs year config later))
-    (split (Chosen y g) xs (Chosen year config) c)
+    (contains_cases (Chosen y g) xs (Chosen year config) c)

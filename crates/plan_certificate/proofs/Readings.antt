@@ -6,11 +6,12 @@ use Rattle.deck_lines.specs.declared.line.CertLine.{CertLine}
 use Rattle.deck_lines.specs.declared.line.CertLine.TheVariants.{Come, Chosen, Total, Infeasible}
 use Rattle.plan_program.specs.declared.solved.Outcome.{Outcome}
 use Rattle.plan_program.specs.declared.solved.Outcome.TheVariants as claims
+use Rattle.wasp_fixed.proofs.Lists.{list_ext}
 use Rattle.plan_certificate.specs.Certificate.{CertData, IsCertificate, named_in}
 use Rattle.plan_certificate.specs.Reading.{AreInForm, IsClaimedBy, IsFaulty, IsFirstFault, IsFormFault, IsSaidBy, ReadingsAreOne, line_at, no_line}
 use Rattle.plan_certificate.specs.Steps.{no_name}
 use Rattle.plan_certificate.specs.declared.certificate.Named.{Named}
-use Rattle.plan_certificate.proofs.Aligned.{list_ext, names_rise, same_sorted}
+use Rattle.plan_certificate.proofs.Aligned.{names_rise, same_sorted}
 use Rattle.plan_certificate.proofs.Lines.{year_of}
 
 -- ---- faults

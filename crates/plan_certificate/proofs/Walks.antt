@@ -12,9 +12,10 @@ use Rattle.plan_program.specs.Plans.{configs, entry_at, no_entry}
 use Rattle.plan_program.specs.Ways.{last_config}
 use Rattle.plan_program.proofs.Orders.{configs_push}
 use Rattle.plan_program.proofs.Ways.{cost_same, nothing_least, reverse_more, way_plan}
+use Rattle.wasp_fixed.proofs.Lists.{list_ext}
 use Rattle.plan_certificate.specs.Certificate.{HasPlanOver, IsAccepted, IsPlanOver}
 use Rattle.plan_certificate.specs.Steps.{IsCostOf, StepsTo, WalksTo}
-use Rattle.plan_certificate.proofs.Aligned.{list_ext, one_entry}
+use Rattle.plan_certificate.proofs.Aligned.{one_entry}
 
 step_costs : (t : Table) (k n : ℕ) (before last config : List ℕ) (e : Scored) (old cost : ℕ) → n ≡ k → last ≡ before → e.config ≡ config → step_cost t.economy (k + 1) before config e.row ≡ cost → old + step_cost t.economy (n + 1) last e.config e.row ≡ old + cost
 step_costs t k n before last config e old cost h l s c = ap (λ x. old + x) ((λ i. step_cost t.economy (h i + 1) (l i) (s i) e.row) ∙ c)

@@ -1,5 +1,5 @@
 -- Two solutions of one table are equal.
-use Rattle.std.proofs.Common.{◌≡◌, ◌≢◌, ℕ, suc, ◌+◌, ◌<◌, ◌≤◌, List, [], ◌∷◌, length, get_or, take, reverse, Option, Some, None, sym, ap, ◌∙◌, arith, refl, true≢false, ⊎_elim, inl, inr}
+use Rattle.std.proofs.Common.{◌≡◌, ◌≢◌, ℕ, ◌+◌, ◌<◌, ◌≤◌, List, [], length, get_or, take, reverse, Option, Some, None, sym, ap, ◌∙◌, arith, refl, true≢false, ⊎_elim, inl, inr}
 use Rattle.std.proofs.lemmas.Bool.{cases_eq, cases_lt}
 use Rattle.std.proofs.lemmas.Cmp.{lists_total, nat_list_cmp_total}
 use Rattle.std.proofs.lemmas.List.{get_or-take, length-take-le, reverse-reverse}
@@ -9,21 +9,13 @@ use Rattle.std.specs.declared.cmp.Ordering.{Ordering}
 use Rattle.std.specs.declared.cmp.Ordering.TheVariants.{Less, Equal, Greater}
 use Rattle.cost_terms.specs.Table.{Table, plan_cost}
 use Rattle.cost_terms.specs.declared.entries.Scored.{Scored}
+use Rattle.wasp_fixed.proofs.Lists.{list_ext}
 use Rattle.plan_program.specs.Chosen.{ComesNoLater, IsChosen, IsInfeasible, IsNoWorse, IsOutcome, SolutionsAreOne, backwards}
 use Rattle.plan_program.specs.CostToCome.{AreCostsToCome, IsCostToCome}
 use Rattle.plan_program.specs.Plans.{IsAdmissible, configs, entry_at, layer_at, no_entry}
 use Rattle.plan_program.specs.declared.solved.Outcome.{Outcome}
 use Rattle.plan_program.specs.declared.solved.Outcome.TheVariants.{Plan, Infeasible}
 use Rattle.plan_program.proofs.Orders.{lists_cmp}
-
-list_ext : {X : Type 0} (d : X) (xs ys : List X) → length xs ≡ length ys → ((k : ℕ) → k < length xs → get_or xs k d ≡ get_or ys k d) → xs ≡ ys
-list_ext d [] [] n e = refl
-list_ext d [] (y ∷ ys) n e = absurd (omega (arith, n))
-list_ext d (x ∷ xs) [] n e = absurd (omega (arith, n))
-list_ext {X} d (x ∷ xs) (y ∷ ys) n e =
-    let head : x ≡ y = e 0 (omega arith) in
-    let rest : xs ≡ ys = list_ext d xs ys (omega (arith, n)) (λ k h. e (suc k) (omega (arith, h))) in
-    λ i. head i ∷ rest i
 
 -- ---- costs-to-come
 

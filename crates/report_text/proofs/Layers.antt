@@ -1,6 +1,5 @@
 -- What a table's layers and its solution are to a report: few years, few counts, and a configuration for each year.
-use Rattle.std.proofs.Common.{◌≡◌, ℕ, ◌+◌, ◌<◌, ◌≤◌, List, [], ◌∷◌, length, map, All, subst, arith}
-use Rattle.std.proofs.lemmas.List.{length-append, length-map}
+use Rattle.std.proofs.Common.{◌≡◌, ℕ, ◌<◌, ◌≤◌, List, [], ◌∷◌, length, map, All, subst, arith}
 use Rattle.std.proofs.lemmas.List.Elements.{All-append, All-from_get_or, All-head, All-map, All-tail, All-weaker}
 use Rattle.cost_terms.specs.CostData.{Fits, IsEconomy, IsGroupCost, IsThermalCost, greatest}
 use Rattle.cost_terms.specs.Table.{IsEntry, IsTable, Table}
@@ -11,19 +10,11 @@ use Rattle.cost_terms.specs.declared.prices.ThermalCost.{ThermalCost}
 use Rattle.plan_program.specs.Plans.{IsAdmissible, configs, entry_at, layer_at, no_entry}
 use Rattle.plan_program.proofs.Forward.{entry_is, place_of}
 use Rattle.plan_certificate.proofs.Aligned.{layer_within}
+use Rattle.cost_terms.proofs.Steps.{width_is}
 use Rattle.report_text.proofs.CertLines.{AreLow}
 use Rattle.report_text.proofs.YearParts.{IsConfig}
 
 -- ---- counts
-
-width_is : (c : CostData) → length (greatest c) ≡ length c.thermal + length c.groups
-width_is c =
-    omega (
-      arith,
-      length-append (map (λ (p : ThermalCost). p.greatest) c.thermal) (map (λ (g : GroupCost). g.greatest) c.groups),
-      length-map c.thermal (λ (p : ThermalCost). p.greatest),
-      length-map c.groups (λ (g : GroupCost). g.greatest),
-    )
 
 pub width_some : (c : CostData) → IsEconomy c → 1 ≤ length (greatest c)
 width_some c v = omega (arith, width_is c, v.candidate)

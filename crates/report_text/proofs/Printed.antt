@@ -1,6 +1,6 @@
 -- A printed line is read as the line that its first word begins.
 use Rattle.std.proofs.Common.{◌≡◌, ◌==◌, ℕ, ◌+◌, ◌*◌, ◌^◌, ◌<◌, ◌≤◌, true, false, List, [], ◌∷◌, ◌++◌, length, All, None, Some, refl, ap, arith}
-use Rattle.std.specs.Prelude.{◌≢◌, nat_lt, codes, decimal, slice_index}
+use Rattle.std.specs.Prelude.{◌≢◌, codes, decimal, slice_index}
 use Rattle.std.specs.List.{list_all}
 use Rattle.std.proofs.lemmas.Bool.Decides.{nat_tests}
 use Rattle.std.proofs.lemmas.List.{length-append}
@@ -11,6 +11,7 @@ use Rattle.deck_lines.specs.Canonical as plain
 use Rattle.deck_lines.specs.Grammar.{bad_byte, behind, is_line_byte, line_of, line_word_of, text_line}
 use Rattle.deck_lines.proofs.Ranges.{both}
 use Rattle.deck_lines.proofs.Texts.{IsPlain, ArePlain, placed, all_words, text_line_bytes, bad_byte-none, less_return-same}
+use Rattle.deck_lines.proofs.ReadLine.{below_limit}
 use Rattle.report_text.specs.Lines.{line, spaced}
 use Rattle.report_text.proofs.Digits.{digits_few, digits_plain}
 
@@ -46,9 +47,6 @@ same_spaces (w ∷ ws) = ap (λ (t : List ℕ). 32 ∷ w ++ t) (same_spaces ws)
 spaced_length : (ws : List (List ℕ)) → AreShown ws → length (plain.spaced ws) ≤ 25 * length ws
 spaced_length [] h = omega arith
 spaced_length (w ∷ ws) h = omega (arith, length-append (32 ∷ w) (plain.spaced ws), h.0.short, spaced_length ws h.1)
-
-below_limit : (n : ℕ) → n ≤ 4096 → nat_lt 4096 n ≡ false
-below_limit n h = grind (arith, nat_tests)
 
 line_byte : (b : ℕ) → is_line_byte b ≡ true → b ≢ 10
 line_byte b h e = grind (arith, nat_tests)

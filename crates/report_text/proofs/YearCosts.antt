@@ -24,6 +24,7 @@ use Rattle.cost_terms.specs.declared.prices.ShortagePrice.{ShortagePrice}
 use Rattle.cost_terms.specs.declared.prices.ThermalCost.{ThermalCost}
 use Rattle.cost_terms.proofs.Amounts.{both_most, priced_most, scaled_most, whole_most}
 use Rattle.cost_terms.proofs.FactorBounds.{end_most, escalated_most, fuel_most}
+use Rattle.wasp_fixed.proofs.Lists.{all_flat}
 use Rattle.report_text.proofs.Layers.{fits_low}
 
 -- ---- lists
@@ -33,10 +34,6 @@ zip_all {X} {Y} P Q [] ys p q = All-nil (λ (e : X × Y). P e.0 × Q e.1)
 zip_all {X} {Y} P Q (x ∷ xs) [] p q = All-nil (λ (e : X × Y). P e.0 × Q e.1)
 zip_all {X} {Y} P Q (x ∷ xs) (y ∷ ys) p q =
     All-cons (λ (e : X × Y). P e.0 × Q e.1) (x, y) (zip xs ys) (All-head P x xs p, All-head Q y ys q) (zip_all P Q xs ys (All-tail P x xs p) (All-tail Q y ys q))
-
-flat_all : {X Y : Type 0} (P : Y → Type 0) (g : X → List Y) (xs : List X) → All (λ x. All P (g x)) xs → All P (flat_map g xs)
-flat_all P g [] h = All-nil P
-flat_all {X} P g (x ∷ xs) h = All-append P (g x) (flat_map g xs) (All-head (λ (z : X). All P (g z)) x xs h) (flat_all P g xs (All-tail (λ (z : X). All P (g z)) x xs h))
 
 flat_long : {X Y : Type 0} (g : X → List Y) (xs : List X) → All (λ x. length (g x) ≤ 30) xs → length (flat_map g xs) ≤ 30 * length xs
 flat_long g [] h = omega arith
@@ -87,7 +84,7 @@ groups_added c before after v =
     let g : GroupCost × (ℕ × ℕ) → List Item = λ s. added_projects s.0 s.1.0 s.1.1 in
     let others = zip (drop (length c.thermal) before) (drop (length c.thermal) after) in
     let all = zip_all IsGroupCost (λ (e : ℕ × ℕ). Unit {0}) c.groups others v.groups.1 (λ k d b. tt) in (
-      flat_all IsItem g steps (All-weaker (λ (s : GroupCost × (ℕ × ℕ)). IsGroupCost s.0 × Unit {0}) (λ (s : GroupCost × (ℕ × ℕ)). All IsItem (g s)) (λ s p. (group_added s.0 s.1.0 s.1.1 p.0).0) steps all),
+      all_flat IsItem g steps (All-weaker (λ (s : GroupCost × (ℕ × ℕ)). IsGroupCost s.0 × Unit {0}) (λ (s : GroupCost × (ℕ × ℕ)). All IsItem (g s)) (λ s p. (group_added s.0 s.1.0 s.1.1 p.0).0) steps all),
       omega (arith, flat_long g steps (All-weaker (λ (s : GroupCost × (ℕ × ℕ)). IsGroupCost s.0 × Unit {0}) (λ (s : GroupCost × (ℕ × ℕ)). length (g s) ≤ 30) (λ s p. (group_added s.0 s.1.0 s.1.1 p.0).1) steps all), length-zip c.groups others, v.groups.0),
     )
 

@@ -1,11 +1,12 @@
 -- What an engine did over calls one after the other.
-use Rattle.std.proofs.Common.{◌≡◌, ℕ, ◌+◌, ◌<◌, List, [], ◌∷◌, ◌++◌, length, get_or, take, Option, Some, All, Contains, IsSome, refl, sym, ap, ◌∙◌, subst, arith}
+use Rattle.std.proofs.Common.{◌≡◌, ℕ, ◌+◌, ◌<◌, List, [], ◌∷◌, ◌++◌, length, get_or, take, Option, Some, Contains, IsSome, refl, sym, ap, ◌∙◌, subst, arith}
 use Rattle.std.proofs.lemmas.List.{append-nil, append_assoc, length-append}
-use Rattle.std.proofs.lemmas.List.Elements.{All-cons, All-head, All-nil, All-tail, filter_map-append}
+use Rattle.std.proofs.lemmas.List.Elements.{All-head, filter_map-append}
 use Rattle.std.proofs.lemmas.Option.{same_Some}
 use Rattle.board_core.specs.declared.row.KeptRow.{KeptRow}
 use Rattle.sim_engine.specs.Engine.{Run, Tape, Tells, TellsToo, Work, raised, with_detail, with_run}
 use Rattle.sim_engine.proofs.CountSteps.{raised_then}
+use Rattle.wasp_fixed.proofs.Lists.{all_split}
 use Rattle.sim_sweep.specs.Demands.{new_demands, run_in, runs_of}
 use Rattle.sim_sweep.specs.Filling.{Fills, Gains}
 use Rattle.sim_sweep.specs.Told.{CanTell}
@@ -13,12 +14,6 @@ use Rattle.sim_sweep.specs.Works.{HasWorked}
 use Rattle.sim_sweep.specs.declared.demand.Demand.{Demand}
 use Rattle.sim_sweep.proofs.FillSteps.{new_more}
 use Rattle.year_system.specs.System.{System}
-
-all_split : {X : Type 0} (P : X → Type 0) (xs ys : List X) → All P (xs ++ ys) → All P xs × All P ys
-all_split P [] ys all = (All-nil P, all)
-all_split P (x ∷ xs) ys all =
-    let rest = all_split P xs ys (All-tail P x (xs ++ ys) all) in
-    (All-cons P x xs (All-head P x (xs ++ ys) all) rest.0, rest.1)
 
 -- an engine that ran nothing gained nothing
 gains_none : (tape : Option Tape) (runs : Option (List Run)) → Gains tape runs runs []

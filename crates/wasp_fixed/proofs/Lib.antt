@@ -1,3 +1,5 @@
 pub mod Areas
 pub mod Factors
+pub mod Floors
+pub mod Lists
 mod Rows

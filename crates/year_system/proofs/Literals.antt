@@ -1,8 +1,8 @@
 -- A test for literal systems: where it computes to true, the system is one.
-use Rattle.std.proofs.Common.{◌≡◌, ℕ, zero, suc, ◌+◌, ◌-◌, ◌*◌, ◌%◌, ◌^◌, ◌<◌, ◌≤◌, ◌++◌, Bool, true, false, ◌&&◌, nat_eq, nat_lt, nat_le, List, [], ◌∷◌, All, length, map, sum, slice_index, arith, refl, ⊎_elim}
+use Rattle.std.proofs.Common.{◌≡◌, ℕ, zero, suc, ◌+◌, ◌-◌, ◌*◌, ◌%◌, ◌^◌, ◌<◌, ◌≤◌, ◌++◌, Bool, true, ◌&&◌, nat_eq, nat_lt, nat_le, List, [], ◌∷◌, All, length, map, sum, slice_index, arith, ⊎_elim}
 use Rattle.std.specs.List.{list_all}
 use Rattle.std.specs.List.Sorted.{IsStrictlyIncreasing}
-use Rattle.std.proofs.lemmas.Bool.{cases_eq, eqb-true, leb-true, ltb-true}
+use Rattle.std.proofs.lemmas.Bool.{and_parts, cases_eq, eqb-true, leb-true, ltb-true}
 use Rattle.std.proofs.lemmas.List.Elements.{All-cons}
 use Rattle.plant_data.specs.Shapes.{IsFaultless, IsInRange, load_at, share_at}
 use Rattle.plant_data.specs.declared.plant.Plant.{Plant}
@@ -11,12 +11,6 @@ use Rattle.plant_data.specs.declared.shape.Point.{Point}
 use Rattle.plant_data.specs.declared.water.Group.{Group}
 use Rattle.plant_data.specs.declared.water.Water.{Water}
 use Rattle.year_system.specs.System.{IsGroup, IsLoad, IsPlant, IsSystem, IsWater, System, greatest, greatest_peak, size, thermal_mw, unit_limit}
-
-both : (a b : Bool) → (a && b) ≡ true → (a ≡ true) × (b ≡ true)
-both true true h = (refl, refl)
-both true false h = (refl, h)
-both false true h = (h, refl)
-both false false h = (h, h)
 
 le : (a b : ℕ) → nat_le a b ≡ true → a ≤ b
 le a b h = leb-true a b h
@@ -29,12 +23,12 @@ each_below (suc n) p = p n && each_below n p
 below : (n : ℕ) (p : ℕ → Bool) → each_below n p ≡ true → (i : ℕ) → i < n → p i ≡ true
 below zero p h i l = absurd (omega (arith, l))
 below (suc n) p h i l =
-    let b = both (p n) (each_below n p) h in
+    let b = and_parts (p n) (each_below n p) h in
     ⊎_elim (λ e. rw e b.0) (λ d. below n p b.1 i (omega (arith, l, d))) (cases_eq i n)
 
 all_from : {X : Type 0} (p : X → Bool) (P : X → Type 0) → ((x : X) → p x ≡ true → P x) → (xs : List X) → list_all p xs ≡ true → All P xs
 all_from p P f [] h = λ i d l. absurd (omega (arith, l))
-all_from p P f (x ∷ xs) h = let b = both (p x) (list_all p xs) h in All-cons P x xs (f x b.0) (all_from p P f xs b.1)
+all_from p P f (x ∷ xs) h = let b = and_parts (p x) (list_all p xs) h in All-cons P x xs (f x b.0) (all_from p P f xs b.1)
 
 abbrev pub is_rising : List ℕ → Bool
 is_rising xs = each_below (length xs - 1) (λ k. nat_lt (slice_index xs k) (slice_index xs (k + 1)))
@@ -49,9 +43,9 @@ is_faultless ps =
 
 faultless_holds : (ps : List Point) → is_faultless ps ≡ true → IsFaultless ps
 faultless_holds ps h =
-    let a = both _ _ h in
-    let b = both _ _ a.1 in
-    let c = both _ _ b.1 in
+    let a = and_parts _ _ h in
+    let b = and_parts _ _ a.1 in
+    let c = and_parts _ _ b.1 in
     record {
       first = eqb-true (load_at ps 0) 0 a.0;
       rises = λ i l. ltb-true (load_at ps i) (load_at ps (i + 1)) (below (length ps - 1) (λ j. nat_lt (load_at ps j) (load_at ps (j + 1))) c.0 i (omega (arith, l)));
@@ -64,20 +58,20 @@ abbrev pub is_from : ℕ → ℕ → ℕ → Bool
 is_from a b n = nat_le a n && nat_le n b
 
 from : (a b n : ℕ) → is_from a b n ≡ true → (a ≤ n) × (n ≤ b)
-from a b n h = let c = both (nat_le a n) (nat_le n b) h in (le a n c.0, le n b c.1)
+from a b n h = let c = and_parts (nat_le a n) (nat_le n b) h in (le a n c.0, le n b c.1)
 
 abbrev pub is_load : Load → Bool
 is_load l = is_from 1 400000 l.peak && (is_from 2 64 (length l.shape) && (list_all (λ p. nat_le p.load 10000 && nat_le p.share 10000) l.shape && is_faultless l.shape))
 
 load_holds : (l : Load) → is_load l ≡ true → IsLoad l
 load_holds l h =
-    let a = both _ _ h in
-    let b = both _ _ a.1 in
-    let c = both _ _ b.1 in
+    let a = and_parts _ _ h in
+    let b = and_parts _ _ a.1 in
+    let c = and_parts _ _ b.1 in
     record {
       peak = from 1 400000 l.peak a.0;
       points = from 2 64 (length l.shape) b.0;
-      range = all_from (λ p. nat_le p.load 10000 && nat_le p.share 10000) IsInRange (λ p k. let d = both (nat_le p.load 10000) (nat_le p.share 10000) k in (le p.load 10000 d.0, le p.share 10000 d.1)) l.shape c.0;
+      range = all_from (λ p. nat_le p.load 10000 && nat_le p.share 10000) IsInRange (λ p k. let d = and_parts (nat_le p.load 10000) (nat_le p.share 10000) k in (le p.load 10000 d.0, le p.share 10000 d.1)) l.shape c.0;
       faultless = faultless_holds l.shape c.1;
     }
 
@@ -88,17 +82,17 @@ is_plant step p =
 
 plant_holds : (step : ℕ) (p : Plant) → is_plant step p ≡ true → IsPlant step p
 plant_holds step p h =
-    let a = both _ _ h in
-    let b = both _ _ a.1 in
-    let c = both _ _ b.1 in
-    let d = both _ _ c.1 in
-    let e = both _ _ d.1 in
-    let f = both _ _ e.1 in
-    let g = both _ _ f.1 in
-    let i = both _ _ g.1 in
-    let j = both _ _ i.1 in
-    let k = both _ _ j.1 in
-    let l = both _ _ k.1 in
+    let a = and_parts _ _ h in
+    let b = and_parts _ _ a.1 in
+    let c = and_parts _ _ b.1 in
+    let d = and_parts _ _ c.1 in
+    let e = and_parts _ _ d.1 in
+    let f = and_parts _ _ e.1 in
+    let g = and_parts _ _ f.1 in
+    let i = and_parts _ _ g.1 in
+    let j = and_parts _ _ i.1 in
+    let k = and_parts _ _ j.1 in
+    let l = and_parts _ _ k.1 in
     record {
       units = le p.units 128 a.0;
       least = from 1 p.full p.least b.0;
@@ -118,10 +112,10 @@ is_water step w = nat_le w.base 20000 && (nat_le w.peak 20000 && (nat_le w.energ
 
 water_holds : (step : ℕ) (w : Water) → is_water step w ≡ true → IsWater step w
 water_holds step w h =
-    let a = both _ _ h in
-    let b = both _ _ a.1 in
-    let c = both _ _ b.1 in
-    let d = both _ _ c.1 in
+    let a = and_parts _ _ h in
+    let b = and_parts _ _ a.1 in
+    let c = and_parts _ _ b.1 in
+    let d = and_parts _ _ c.1 in
     record {
       base = le w.base 20000 a.0;
       peak = le w.peak 20000 b.0;
@@ -135,10 +129,10 @@ is_group step periods conditions g =
 
 group_holds : (step periods conditions : ℕ) (g : Group) → is_group step periods conditions g ≡ true → IsGroup step periods conditions g
 group_holds step periods conditions g h =
-    let a = both _ _ h in
-    let b = both _ _ a.1 in
-    let c = both _ _ b.1 in
-    let d = both _ _ c.1 in
+    let a = and_parts _ _ h in
+    let b = and_parts _ _ a.1 in
+    let c = and_parts _ _ b.1 in
+    let d = and_parts _ _ c.1 in
     record {
       number = from 1 2 g.number a.0;
       existing = le g.existing 15 b.0;
@@ -152,8 +146,8 @@ is_existing step p = is_from 1 40 p.number && (nat_le 1 p.units && is_plant step
 
 existing_holds : (step : ℕ) (p : Plant) → is_existing step p ≡ true → (1 ≤ p.number) × (p.number ≤ 40) × (1 ≤ p.units) × IsPlant step p
 existing_holds step p h =
-    let a = both _ _ h in
-    let b = both _ _ a.1 in
+    let a = and_parts _ _ h in
+    let b = and_parts _ _ a.1 in
     let n = from 1 40 p.number a.0 in
     (n.0, n.1, le 1 p.units b.0, plant_holds step p b.1)
 
@@ -162,7 +156,7 @@ is_candidate step p = is_from 41 52 p.number && is_plant step p
 
 candidate_holds : (step : ℕ) (p : Plant) → is_candidate step p ≡ true → (41 ≤ p.number) × (p.number ≤ 52) × IsPlant step p
 candidate_holds step p h =
-    let a = both _ _ h in
+    let a = and_parts _ _ h in
     let n = from 41 52 p.number a.0 in
     (n.0, n.1, plant_holds step p a.1)
 
@@ -177,24 +171,24 @@ is_system s =
 
 pub system_holds : (s : System) → is_system s ≡ true → IsSystem s
 system_holds s h =
-    let a = both _ _ h in
-    let b = both _ _ a.1 in
-    let c = both _ _ b.1 in
-    let d = both _ _ c.1 in
-    let e = both _ _ d.1 in
-    let f = both _ _ e.1 in
-    let g = both _ _ f.1 in
-    let i = both _ _ g.1 in
-    let j = both _ _ i.1 in
-    let k = both _ _ j.1 in
-    let l = both _ _ k.1 in
-    let m = both _ _ l.1 in
-    let n = both _ _ m.1 in
-    let o = both _ _ n.1 in
-    let p = both _ _ o.1 in
-    let q = both _ _ p.1 in
-    let r = both _ _ q.1 in
-    let t = both _ _ r.1 in
+    let a = and_parts _ _ h in
+    let b = and_parts _ _ a.1 in
+    let c = and_parts _ _ b.1 in
+    let d = and_parts _ _ c.1 in
+    let e = and_parts _ _ d.1 in
+    let f = and_parts _ _ e.1 in
+    let g = and_parts _ _ f.1 in
+    let i = and_parts _ _ g.1 in
+    let j = and_parts _ _ i.1 in
+    let k = and_parts _ _ j.1 in
+    let l = and_parts _ _ k.1 in
+    let m = and_parts _ _ l.1 in
+    let n = and_parts _ _ m.1 in
+    let o = and_parts _ _ n.1 in
+    let p = and_parts _ _ o.1 in
+    let q = and_parts _ _ p.1 in
+    let r = and_parts _ _ q.1 in
+    let t = and_parts _ _ r.1 in
     let periods = from 1 12 (length s.loads) b.0 in
     record {
       step = from 1 20 s.step a.0;

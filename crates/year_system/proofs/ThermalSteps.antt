@@ -11,8 +11,8 @@ use Rattle.plant_data.specs.Units.{candidate_units, existing_units, plant_units,
 use Rattle.plant_data.specs.declared.plant.Unit.{Unit as Machine}
 use Rattle.plant_data.specs.declared.plant.Plant.{Plant}
 use Rattle.plant_data.specs.declared.water.Group.{Group}
+use Rattle.wasp_fixed.proofs.Lists.{zip_more}
 use Rattle.year_system.specs.System.{System, Fits, full_mw, greatest, unit_limit, units}
-use Rattle.year_system.proofs.WaterSteps.{zip_more}
 
 pub counted : (s : System) (counts : List ℕ) → Fits s counts → length s.thermal ≤ length counts
 counted s counts f =

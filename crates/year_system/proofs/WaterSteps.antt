@@ -3,13 +3,12 @@ use Rattle.std.proofs.Common.{◌≡◌, ℕ, ◌+◌, ◌*◌, ◌<◌, ◌≤�
 use Rattle.std.specs.List.{range_with_len, zip}
 use Rattle.std.proofs.Math.Nat.{mul-le-mul_right, add-mul}
 use Rattle.std.proofs.lemmas.List.FromFn.{sum_by-map-range_with_len_more}
-use Rattle.std.proofs.lemmas.List.Sums.{sum_by_more}
-use Rattle.std.proofs.lemmas.Slice.Zip.{get_or-zip, length-zip}
 use Rattle.std.proofs.lemmas.List.{length-append, length-map, length-drop, get_or-drop, get_or_default}
 use Rattle.plant_data.specs.declared.plant.Plant.{Plant}
 use Rattle.plant_data.specs.declared.shape.Load.{Load}
 use Rattle.plant_data.specs.declared.water.Group.{Group}
 use Rattle.plant_data.specs.declared.water.Water.{Water}
+use Rattle.wasp_fixed.proofs.Lists.{zip_more}
 use Rattle.year_system.specs.System.{System, IsGroup, Fits, greatest}
 use Rattle.year_system.specs.Capacity.{group_mw, group_water, no_group, no_water, water_at}
 
@@ -36,12 +35,6 @@ water_most s g j p c v h k l =
 
 pub sum_range_more : (f : ℕ → ℕ) (n : ℕ) → sum (map f (range_with_len 0 (n + 1))) ≡ sum (map f (range_with_len 0 n)) + f n
 sum_range_more f n = sum_by-map-range_with_len_more (λ x. x) f 0 n n (zero-add n)
-
-pub zip_more : {X : Type 0} (f : X × ℕ → ℕ) (xs : List X) (ns : List ℕ) (k : ℕ) (d : X) → length xs ≤ length ns → k < length xs →
-    sum_by f (take (k + 1) (zip xs ns)) ≡ sum_by f (take k (zip xs ns)) + f (get_or xs k d, get_or ns k 0)
-zip_more f xs ns k d l h =
-    let n : k < length (zip xs ns) = omega (arith, length-zip xs ns) in
-    sum_by_more f (zip xs ns) k (d, 0) n ∙ ap (λ e. sum_by f (take k (zip xs ns)) + f e) (get_or-zip xs ns k (d, 0) h (omega arith))
 
 -- the counts of the groups
 pub groups_long : (s : System) (counts : List ℕ) → Fits s counts → length (drop (length s.thermal) counts) ≡ length s.groups

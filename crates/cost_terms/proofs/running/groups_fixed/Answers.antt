@@ -3,9 +3,10 @@ use Rattle.std.specs.List.{zip}
 use Rattle.std.proofs.Math.Nat.{mul-le-mul}
 use Rattle.std.proofs.lemmas.List.{get_or_default, get_or-drop, take_all}
 use Rattle.std.proofs.lemmas.Slice.Zip.{length-zip}
+use Rattle.wasp_fixed.proofs.Lists.{zip_more}
 use Rattle.cost_terms.specs.Cost.{projects_mw}
 use Rattle.cost_terms.specs.declared.prices.GroupCost.{GroupCost}
-use Rattle.cost_terms.proofs.Steps.{groups_long, no_group, zip_more}
+use Rattle.cost_terms.proofs.Steps.{groups_long, no_group}
 use Rattle.cost_terms.proofs.running.groups_fixed.Goals as goal
 
 pub loop-k-preserved : goal.loop-k-preserved

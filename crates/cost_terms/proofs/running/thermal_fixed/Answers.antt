@@ -3,8 +3,9 @@ use Rattle.std.specs.List.{zip}
 use Rattle.std.proofs.Math.Nat.{mul-le-mul}
 use Rattle.std.proofs.lemmas.List.{take_all}
 use Rattle.std.proofs.lemmas.Slice.Zip.{length-zip}
+use Rattle.wasp_fixed.proofs.Lists.{zip_more}
 use Rattle.cost_terms.specs.declared.prices.ThermalCost.{ThermalCost}
-use Rattle.cost_terms.proofs.Steps.{counted, no_thermal, zip_more}
+use Rattle.cost_terms.proofs.Steps.{counted, no_thermal}
 use Rattle.cost_terms.proofs.running.thermal_fixed.Goals as goal
 
 pub loop-k-preserved : goal.loop-k-preserved

@@ -3,8 +3,8 @@ use Rattle.std.specs.List.{zip}
 use Rattle.std.proofs.Math.Nat.{mul-le-mul}
 use Rattle.std.proofs.lemmas.List.{take_all}
 use Rattle.std.proofs.lemmas.Slice.Zip.{length-zip}
+use Rattle.wasp_fixed.proofs.Lists.{zip_more}
 use Rattle.cost_terms.specs.Cost.{shortage_cost}
-use Rattle.cost_terms.proofs.Steps.{zip_more}
 use Rattle.cost_terms.proofs.running.weighted_cents.Goals as goal
 
 pub loop-k-preserved : goal.loop-k-preserved

@@ -6,12 +6,12 @@ use Rattle.loading_order.specs.declared.blocks.Block.{Block}
 use Rattle.year_system.specs.System.{greatest_peak, thermal_mw}
 use Rattle.year_system.proofs.CellSteps.{cells_fit}
 use Rattle.load_curves.proofs.Ceilings.{ceiling-div_ceil}
+use Rattle.wasp_fixed.proofs.Lists.{written}
 use Rattle.sim_engine.specs.Curves.{load_cells, no_load}
 use Rattle.sim_engine.specs.Dispatch.{available, dispatch}
 use Rattle.sim_engine.specs.Loading.{cells_in, energies, lolp, unserved}
 use Rattle.sim_engine.specs.Prepared.{period_of}
 use Rattle.sim_engine.proofs.PieceSteps.{available_small, dispatch_is, peak_at, same_available, top_hours, top_mw}
-use Rattle.sim_engine.proofs.StackSteps.{written}
 use Rattle.sim_engine.proofs.condition.simulate_period.Goals as goal
 
 pub run_period-requires-clause-cells : goal.run_period-requires-clause-cells
