@@ -13,7 +13,5 @@
 #![tactic(auto)]
 
 mod blocks;
-#[cfg(test)]
-mod tests;
 
 pub use blocks::{clip_level, shave, shift};
