@@ -14,8 +14,6 @@
 mod come;
 mod solved;
 mod solving;
-#[cfg(test)]
-mod tests;
 mod trace;
 
 pub use solved::{CostToCome, Outcome, Plan, Solved};

@@ -1,3 +1,4 @@
+//! Worked rows: reports and verdicts as texts.
 ghost use Rattle.std.specs.Prelude.{◌≡◌, ◌+◌, ◌≤◌, [], ◌∷◌, All, IfOk, IfSome, length, map};
 ghost use Rattle.std.specs.Cmp.Lexicographic.{slice_cmp};
 ghost use Rattle.std.specs.Ordering.{nat_cmp};
@@ -7,11 +8,6 @@ ghost use Rattle.cost_terms.specs.Table.{IsEntry, Rises};
 ghost use Rattle.plant_data.specs.Rows.{IsRow};
 ghost use Rattle.report_text.specs.Report.{HasWidths, plan_of};
 
-use crate::year::push_year;
-use crate::{
-    CaseReport, Generation, Judged, PlanYear, Refusal, write_case, write_heading, write_keys,
-    write_malformed, write_refusal, write_verdict,
-};
 use checked_deck::{Name, PlantId};
 use cost_terms::{
     Built, CaseTable, CostData, Economy, Layer, Ran, Rates, Scored, ShortagePrice, ThermalCost,
@@ -21,6 +17,10 @@ use deck_lines::{LineFault, LineKind};
 use plan_certificate::Verdict;
 use plan_program::{Outcome, solve};
 use plant_data::{Config, Listed, Row, Tunnel};
+use report_text::{
+    CaseReport, Generation, Judged, PlanYear, Refusal, write_case, write_heading, write_keys,
+    write_malformed, write_refusal, write_verdict,
+};
 use std::alloc::{AllocError, Global};
 use std::test::Fail;
 use wasp_fixed::OutOfMemory;
@@ -78,22 +78,6 @@ fn units(count: u64) -> Config
 {
     let mut config = Config::zero(1);
     config.set(0, count);
-    config
-}
-
-/// The counts of four candidates.
-fn four(first: u64, second: u64, third: u64, fourth: u64) -> Config
-    requires first { first ≤ 128 }
-    requires second { second ≤ 128 }
-    requires third { third ≤ 128 }
-    requires fourth { fourth ≤ 128 }
-    ensures { result ≡ first ∷ second ∷ third ∷ fourth ∷ [] }
-{
-    let mut config = Config::zero(4);
-    config.set(0, first);
-    config.set(1, second);
-    config.set(2, third);
-    config.set(3, fourth);
     config
 }
 
@@ -203,7 +187,9 @@ fn two_years(
 /// What is reported of a year of gas units beside their count.
 #[derive(Clone, Copy)]
 struct Figures {
+    least: u64,
     width: u64,
+    id: PlantId,
     built: Built,
     ran: Ran,
     row: Row,
@@ -218,17 +204,17 @@ fn generation(id: PlantId, energy: u64) -> Generation {
     }
 }
 
-/// A year of gas units, whose tunnel begins at 0.
+/// A year of gas units.
 fn gas_year(alloc: Global, config: Config, figures: &Figures) -> Result<PlanYear, AllocError>
     requires { length config ≡ 1 }
     ensures config { IfOk result (λ y. y.config ≡ config) }
     ensures widths { IfOk result (HasWidths (3 ∷ [])) }
 {
-    let generations = vec![in alloc; generation(PlantId::Thermal(1), figures.energy)]?;
+    let generations = vec![in alloc; generation(figures.id, figures.energy)]?;
     Ok(PlanYear {
         config,
         tunnel: Tunnel {
-            least: units(0),
+            least: units(figures.least.min(3)),
             width: units(figures.width.min(3)),
         },
         built: figures.built,
@@ -295,6 +281,8 @@ fn report_of(
 /// Two units of three, by the costs of the year.
 fn two_units() -> Figures {
     Figures {
+        least: 0,
+        id: PlantId::Thermal(1),
         width: 2,
         built: Built {
             build: 100_000_000,
@@ -374,6 +362,8 @@ fn no_plan_crosses_two_years_of_falling_counts(rt: HostRuntime) -> Result<(), Fa
 /// One unit in a year, with what building and running it costs.
 fn one_unit(build: u64, salvage: u64, fuel: u64, unserved: u64) -> Figures {
     Figures {
+        least: 0,
+        id: PlantId::Thermal(1),
         width: 1,
         built: Built {
             build,
@@ -408,43 +398,32 @@ fn a_unit_of_the_first_of_two_years_is_reported(rt: HostRuntime) -> Result<(), F
     Ok(())
 }
 
-/// A year of four candidates, one at each kind of edge, with a plant, a candidate and a group.
-fn mixed_year(alloc: Global) -> Result<PlanYear, AllocError>
-    ensures { IfOk result (HasWidths (8 ∷ 8 ∷ 8 ∷ 8 ∷ [])) }
-{
-    let generations = vec![in alloc;
-        generation(PlantId::Existing(40), 7),
-        generation(PlantId::Thermal(12), 0),
-        generation(PlantId::Hydro(2), 1_000_000),
-    ]?;
-    let Figures {
-        built,
-        ran,
-        row,
-        ..
-    } = two_units();
-    Ok(PlanYear {
-        config: four(3, 2, 1, 1),
-        tunnel: Tunnel {
-            least: four(1, 1, 1, 1),
-            width: four(2, 2, 2, 0),
-        },
-        built,
-        ran,
-        row,
-        generations: Listed::new(generations),
-    })
+/// The report of a year with two units, with another mark and another plant.
+fn marked(alloc: Global, mark: &str, plant: &str) -> Result<String, AllocError> {
+    format!(in alloc;
+        "CASE 1\nCHOSEN 1 2\nEDGE 1 {mark}\nTERMS 1 100000000 86363636 0 8268808 0 8352332\nRISK 1 10000000 10000000 8760\nGEN 1 {plant} GAS 867240\nTOTAL 30257504\nCOME 1 0 835233227\nCOME 1 1 97858603\nCOME 1 2 30257504\n"
+    )
 }
 
 #[test]
 fn a_year_shows_all_marks_and_kinds_of_plants(rt: HostRuntime) -> Result<(), Fail> {
-    let year = mixed_year(rt.alloc())?;
-    let mut text = Vec::new(rt.alloc());
-    push_year(0, &four(8, 8, 8, 8), 30, &year, &mut text)?;
-    assert_eq!(rt;
-        text.as_slice(),
-        b"CHOSEN 30 3 2 1 1\nEDGE 30 +.-=\nTERMS 30 100000000 86363636 0 8268808 0 8352332\nRISK 30 10000000 10000000 8760\nGEN 30 P40 GAS 7\nGEN 30 T12 GAS 0\nGEN 30 H2 GAS 1000000\n".as_slice()
-    );
+    let alloc = rt.alloc();
+    for (least, width, id, mark, plant) in [
+        (1, 1, PlantId::Existing(40), "+", "P40"),
+        (1, 2, PlantId::Thermal(12), ".", "T12"),
+        (2, 1, PlantId::Hydro(2), "-", "H2"),
+        (2, 0, PlantId::Hydro(1), "=", "H1"),
+    ] {
+        let figures = Figures {
+            least,
+            width,
+            id,
+            ..two_units()
+        };
+        let text = report_of(alloc, three_counts(alloc)?, &[figures], 0)?;
+        let want = marked(alloc, mark, plant)?;
+        assert_eq!(rt; text.as_slice(), want.as_bytes());
+    }
     Ok(())
 }
 

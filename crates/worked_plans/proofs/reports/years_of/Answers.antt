@@ -3,7 +3,7 @@ use Rattle.std.proofs.lemmas.List.{map-append, take_more}
 use Rattle.std.proofs.lemmas.List.Elements.{All-push}
 use Rattle.report_text.specs.Report.{HasWidths}
 use Rattle.report_text.specs.declared.data.PlanYear.{PlanYear}
-use Rattle.report_text.proofs.tests.years_of.Goals as goal
+use Rattle.worked_plans.proofs.reports.years_of.Goals as goal
 
 pub loop-k-preserved : goal.loop-k-preserved
 loop-k-preserved c =

@@ -1,3 +1,4 @@
+//! Worked rows: least-cost plans.
 ghost use Rattle.std.specs.Prelude.{◌≡◌, ◌+◌, ◌≤◌, [], ◌∷◌, All, IfOk, length, map, sum_by};
 ghost use Rattle.std.specs.Cmp.Lexicographic.{slice_cmp};
 ghost use Rattle.std.specs.Ordering.{nat_cmp};
@@ -6,8 +7,8 @@ ghost use Rattle.plant_data.specs.Rows.{IsRow};
 ghost use Rattle.cost_terms.specs.CostData.{IsEconomy, IsThermalCost, greatest};
 ghost use Rattle.cost_terms.specs.Table.{IsEntry, Rises};
 
-use crate::{Outcome, Solved, solve};
 use cost_terms::{CaseTable, CostData, Economy, Layer, Rates, Scored, ShortagePrice, ThermalCost};
+use plan_program::{Outcome, Solved, solve};
 use plant_data::{Config, Listed, Row};
 use std::alloc::{AllocError, Global};
 use std::test::Fail;

@@ -1,3 +1,4 @@
+//! Worked rows: certificates read and judged.
 ghost use Rattle.std.specs.Prelude.{◌≡◌, ◌≤◌, [], ◌∷◌, All, IfOk};
 ghost use Rattle.cost_terms.specs.CostData.{IsEconomy, greatest};
 ghost use Rattle.cost_terms.specs.Table.{IsEntry, Rises};
@@ -5,9 +6,9 @@ ghost use Rattle.deck_lines.specs.Grammar.{IsCertLine, IsLine};
 ghost use Rattle.plant_data.specs.Rows.{IsRow};
 ghost use Rattle.plan_certificate.specs.Reading.{AreCertLines};
 
-use crate::{CertError, Verdict, judge, read_certificate};
 use cost_terms::{CaseTable, CostData, Economy, Layer, Rates, Scored, ShortagePrice, ThermalCost};
 use deck_lines::{CertLine, Line, Mode, read_line};
+use plan_certificate::{CertError, Verdict, judge, read_certificate};
 use plant_data::{Config, Listed, Row};
 use std::alloc::{AllocError, Global};
 use std::test::Fail;

@@ -1,6 +1,6 @@
 use Rattle.std.proofs.Common.{◌≡◌, [], ◌∷◌, All, map, take}
 use Rattle.report_text.specs.Report.{HasWidths}
-use Rattle.report_text.proofs.tests.years_of.Given as goal
+use Rattle.worked_plans.proofs.reports.years_of.Given as goal
 
 abbrev pub invariant-loop-k : goal.invariant-loop-k
 invariant-loop-k l = record {
