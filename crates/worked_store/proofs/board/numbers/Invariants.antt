@@ -1,6 +1,6 @@
 use Rattle.std.proofs.Common.{◌≡◌, ◌≢◌, ℕ, length}
 use Rattle.board_core.specs.Lists.{IsIn}
-use Rattle.sim_board.proofs.tests.numbers.Given as goal
+use Rattle.worked_store.proofs.board.numbers.Given as goal
 
 abbrev pub invariant-loop-code : goal.invariant-loop-code
 invariant-loop-code l = record {

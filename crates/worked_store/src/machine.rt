@@ -1,7 +1,8 @@
+//! Worked rows: the store as a machine.
 ghost use Rattle.std.specs.Prelude.{◌≡◌, ℕ, IfOk};
 ghost use Rattle.board_core.specs.Trial.{same_row};
 
-use crate::{Answer, BoardState, Event, KeptRow, Words, home_of, run_events, slots_of};
+use board_core::{Answer, BoardState, Event, KeptRow, Words, home_of, run_events, slots_of};
 use std::alloc::Global;
 use std::test::Fail;
 use wasp_fixed::OutOfMemory;

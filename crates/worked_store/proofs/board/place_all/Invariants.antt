@@ -1,6 +1,6 @@
 use Rattle.std.proofs.Common.{◌≡◌, ◌≤◌}
-use Rattle.sim_board.specs.Trial.{OnTrial}
-use Rattle.sim_board.proofs.tests.place_all.Given as goal
+use Rattle.worked_store.specs.Trial.{OnTrial}
+use Rattle.worked_store.proofs.board.place_all.Given as goal
 
 abbrev pub invariant-loop-code : goal.invariant-loop-code
 invariant-loop-code l = record {

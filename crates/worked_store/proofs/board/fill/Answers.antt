@@ -6,7 +6,7 @@ use Rattle.sim_board.specs.Seats.{SeatIs, with_actor}
 use Rattle.sim_board.specs.Standing.{wrote}
 use Rattle.sim_board.specs.Filling.{filling, Holds}
 use Rattle.sim_board.proofs.FillSteps.{filling_none, filling_more, puts_next, may_publish, published_seat}
-use Rattle.sim_board.proofs.tests.fill.Goals as goal
+use Rattle.worked_store.proofs.board.fill.Goals as goal
 
 pub put_word-requires-clause-hand : goal.put_word-requires-clause-hand
 put_word-requires-clause-hand c κs =

@@ -2,7 +2,7 @@ use Rattle.std.proofs.Common.{◌≡◌, ◌+◌, [], ◌∷◌, ◌++◌, ⊎_e
 use Rattle.std.proofs.lemmas.Grind.{common_steps}
 use Rattle.board_core.specs.Lists.{IsIn}
 use Rattle.board_core.proofs.Lists.{is_in-append}
-use Rattle.sim_board.proofs.tests.numbers.Goals as goal
+use Rattle.worked_store.proofs.board.numbers.Goals as goal
 
 pub loop-code-preserved : goal.loop-code-preserved
 loop-code-preserved c =
