@@ -23,8 +23,6 @@ mod runs;
 mod slot;
 mod state;
 mod store;
-#[cfg(test)]
-mod tests;
 
 pub use actor::{Actor, Hand};
 pub use due::Due;

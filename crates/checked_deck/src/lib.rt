@@ -14,8 +14,6 @@ mod economy;
 mod error;
 mod names;
 mod parts;
-#[cfg(test)]
-mod tests;
 mod typed;
 
 pub use error::CheckError;

@@ -20,8 +20,6 @@ mod factors;
 mod prices;
 mod running;
 mod terms;
-#[cfg(test)]
-mod tests;
 
 pub use economy::Economy;
 pub use entries::{CaseTable, Layer, Scored};

@@ -18,8 +18,6 @@ mod rows;
 mod search;
 mod spans;
 mod table;
-#[cfg(test)]
-mod tests;
 
 pub use candidates::width;
 pub use fault::DeckFault;

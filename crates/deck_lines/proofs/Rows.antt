@@ -10,11 +10,10 @@ use Rattle.deck_lines.specs.declared.line.CertLine.TheVariants as certs
 use Rattle.deck_lines.specs.declared.line.Mode.TheVariants as modes
 use Rattle.deck_lines.specs.Words.{words_of, number_of}
 use Rattle.deck_lines.specs.LineFault.{fault}
-use Rattle.deck_lines.specs.Statements.{stated_by, statement_of, fields_onto, groups_onto, name_at}
+use Rattle.deck_lines.specs.Statements.{statement_of, fields_onto, groups_onto, name_at}
 use Rattle.deck_lines.specs.Grammar.{line_of, counts_onto}
 use Rattle.deck_lines.specs.Canonical.{text_of}
 use Rattle.deck_lines.specs.Deck.{deck_at}
-use Rattle.deck_lines.specs.Script.{script_from}
 
 -- words stand where their first byte stands, from 1
 columns : words_of (codes " ADD  3") ≡ record { column = 2; text = codes "ADD" } ∷ record { column = 7; text = codes "3" } ∷ []
@@ -26,17 +25,17 @@ eighteen_digits = refl
 nineteen_digits : number_of (codes "0000000000000000042") ≡ None
 nineteen_digits = refl
 
-added : stated_by 10 (words_of (codes "ADD 40 30 128")) ≡ Ok (record { head = heads.Add 40 30; body = record { name = []; numbers = 128 ∷ [] } })
-unfolding statement_of fields_onto groups_onto name_at
+added : line_of modes.Plan (codes "ADD 40 30 128") ≡ Ok (lines.Set (record { head = heads.Add 40 30; body = record { name = []; numbers = 128 ∷ [] } }))
+unfolding line_of statement_of fields_onto groups_onto name_at
 added = refl
 
-year_31 : stated_by 9 (words_of (codes "YEARS 31")) ≡ Err (fault faults.Range 7)
-unfolding statement_of fields_onto groups_onto name_at
+year_31 : line_of modes.Plan (codes "YEARS 31") ≡ Err (fault faults.Range 7)
+unfolding line_of statement_of fields_onto groups_onto name_at
 year_31 = refl
 
 -- a word that completes a pair is missing
-half_a_pair : stated_by 14 (words_of (codes "LOAD 1 100 1 90")) ≡ Err (fault faults.Count 14)
-unfolding statement_of fields_onto groups_onto name_at
+half_a_pair : line_of modes.Plan (codes "LOAD 1 100 1 90") ≡ Err (fault faults.Count 14)
+unfolding line_of statement_of fields_onto groups_onto name_at
 half_a_pair = refl
 
 -- ---- the deck
@@ -74,16 +73,7 @@ plan_in_check : line_of modes.Check (codes " PLAN") ≡ Err (fault faults.Word 2
 unfolding line_of
 plan_in_check = refl
 
--- ---- scripts
-
--- a certificate ends at its ENDCHECK, a script at its END
-to_its_end : script_from modes.Check (codes "CHECK 2" ∷ codes "TOTAL 5" ∷ codes "ENDCHECK" ∷ codes "DROP ENS" ∷ codes "END" ∷ codes "ENS 1" ∷ []) ≡ lines.Check 2 ∷ lines.Cert (certs.Total 5) ∷ lines.EndCheck ∷ lines.Drop heads.Ens ∷ []
-unfolding line_of fields_onto
-to_its_end = refl
-
-to_its_fault : script_from modes.Plan (codes "PLAN" ∷ codes "PLAN 1" ∷ codes "PLAN" ∷ []) ≡ lines.Plan ∷ []
-unfolding line_of
-to_its_fault = refl
+-- ---- texts
 
 text_of_add : text_of (record { head = heads.Add 7 30; body = record { name = []; numbers = 128 ∷ [] } }) ≡ codes "ADD 7 30 128"
 unfolding digits

@@ -5,4 +5,3 @@ pub mod Statements
 pub mod Grammar
 pub mod Canonical
 pub mod Deck
-pub mod Script

@@ -19,7 +19,7 @@ use Rattle.deck_lines.specs.declared.head.Key.{Key as KeyFields}
 use Rattle.deck_lines.specs.declared.head.Head.TheVariants as heads
 use Rattle.deck_lines.specs.declared.statement.Statement.{Statement}
 use Rattle.deck_lines.specs.Words.{Piece, number_of}
-use Rattle.deck_lines.specs.LineFault.{◌>>=◌, fault}
+use Rattle.deck_lines.specs.LineFault.{fault}
 
 -- ---- the table
 
@@ -280,10 +280,6 @@ statement_of word end ws = do
 abbrev pub headed : Option HeadWord → ℕ → ℕ → List Piece → Result Statement LineFault
 headed None column end ws = Err (fault faults.Word column)
 headed (Some word) column end ws = statement_of word end ws
-
-abbrev pub stated_by : ℕ → List Piece → Result Statement LineFault
-stated_by end [] = Err (fault faults.Word 1)
-stated_by end (w ∷ ws) = headed (head_word_of w.text) w.column end ws
 
 -- ---- a statement in its form and its ranges
 

@@ -26,8 +26,6 @@ mod numbers;
 mod reading;
 mod scan;
 mod statement;
-#[cfg(test)]
-mod tests;
 
 pub use body::Body;
 pub use deck::{Deck, decks_follow_scripts};

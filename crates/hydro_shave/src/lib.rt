@@ -14,8 +14,6 @@
 
 mod blocks;
 mod laws;
-#[cfg(test)]
-mod tests;
 
 pub use blocks::{clip_level, shave, shift};
 pub use laws::{clip_levels_are_least, clip_levels_are_one};

@@ -13,8 +13,6 @@
 
 mod fill;
 mod points;
-#[cfg(test)]
-mod tests;
 
 pub use fill::fill_curve;
 pub use points::curve_at;

@@ -16,8 +16,6 @@
 mod blocks;
 mod maintain;
 mod periods;
-#[cfg(test)]
-mod tests;
 
 pub use blocks::{Block, Kind, order, order_is_unique};
 pub use maintain::{MAX_PERIODS, hours_add_up, maintenance};

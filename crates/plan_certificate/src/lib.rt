@@ -19,8 +19,6 @@ mod judging;
 mod laws;
 mod reading;
 mod steps;
-#[cfg(test)]
-mod tests;
 
 pub use certificate::{Certificate, Named};
 pub use judging::{Verdict, judge};

@@ -15,8 +15,6 @@ mod come;
 mod laws;
 mod solved;
 mod solving;
-#[cfg(test)]
-mod tests;
 mod trace;
 
 pub use laws::solutions_are_one;

@@ -18,8 +18,6 @@ mod plant;
 mod row;
 mod same;
 mod shape;
-#[cfg(test)]
-mod tests;
 mod water;
 
 pub use config::{Config, MAX_COUNT, MAX_WIDTH};

@@ -31,12 +31,4 @@ impl<T> Listed<T> {
     {
         self.items.as_slice()
     }
-
-    /// The items, given back.
-    pub fn into_vec(self) -> Vec<T>
-        ensures { result.items ≡ self }
-    {
-        let Listed { items } = self;
-        items
-    }
 }

@@ -18,8 +18,6 @@ mod laws;
 mod numbers;
 mod refusals;
 mod script;
-#[cfg(test)]
-mod tests;
 mod verdicts;
 mod year;
 

@@ -13,8 +13,6 @@
 mod error;
 mod listing;
 mod margin;
-#[cfg(test)]
-mod tests;
 mod walk;
 
 pub use error::ConfigsError;

@@ -17,5 +17,3 @@ pub use discounts::{discount, half_factor, middle};
 pub use memory::OutOfMemory;
 pub use numbers::{M, ONE, mul_div_floor};
 
-#[cfg(test)]
-mod tests;

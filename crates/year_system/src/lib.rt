@@ -16,8 +16,6 @@ mod book;
 mod codes;
 mod limits;
 mod system;
-#[cfg(test)]
-mod tests;
 mod water;
 
 pub use book::Book;

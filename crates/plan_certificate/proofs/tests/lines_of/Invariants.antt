@@ -1,5 +1,0 @@
-use Rattle.plan_certificate.specs.Reading.{AreCertLines}
-use Rattle.plan_certificate.proofs.tests.lines_of.Given as goal
-
-abbrev pub invariant-loop-line : goal.invariant-loop-line
-invariant-loop-line l = AreCertLines l.lines.items
