@@ -19,7 +19,7 @@ use Rattle.deck_lines.specs.declared.head.Key.{Key as KeyFields}
 use Rattle.deck_lines.specs.declared.head.Head.TheVariants as heads
 use Rattle.deck_lines.specs.declared.statement.Statement.{Statement}
 use Rattle.deck_lines.specs.Words.{Piece, number_of}
-use Rattle.deck_lines.specs.LineFault.{fault}
+use Rattle.deck_lines.specs.LineFault.{◌>>=◌, fault}
 
 -- ---- the table
 
