@@ -34,7 +34,7 @@ unfolding line_of statement_of fields_onto groups_onto name_at
 year_31 = refl
 
 -- a word that completes a pair is missing
-half_a_pair : line_of modes.Plan (codes "LOAD 1 100 1 90") ≡ Err (fault faults.Count 14)
+half_a_pair : line_of modes.Plan (codes "LOAD 1 100 1 90") ≡ Err (fault faults.Count 16)
 unfolding line_of statement_of fields_onto groups_onto name_at
 half_a_pair = refl
 
