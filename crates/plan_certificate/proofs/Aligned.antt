@@ -14,7 +14,7 @@ use Rattle.cost_terms.specs.Table.{IsTable, Table}
 use Rattle.cost_terms.specs.declared.entries.Scored.{Scored}
 use Rattle.plan_program.specs.Plans.{configs, entry_at, layer_at, no_entry}
 use Rattle.plan_program.proofs.Forward.{contains_at, place_of}
-use Rattle.wasp_fixed.proofs.Lists.{contains_cases, contains_tail, list_ext}
+use Rattle.wasp_fixed.proofs.Lists.{first_or_rest, contains_tail, list_ext}
 use Rattle.plan_certificate.specs.Certificate.{AreBounds, CertData, IsAccepted, IsCertificate, NamesAccepted, NoneAfterNone, Precedes, Says, named_in}
 use Rattle.plan_certificate.specs.Steps.{AreAligned, ArrivalKeeps, RuleHolds, StepKeeps, YearsKeep, arrival, name_at, names_of, no_name}
 use Rattle.plan_certificate.specs.declared.certificate.Named.{Named}
@@ -47,8 +47,8 @@ none_in_none z (k, b, e) = omega (arith, b)
 heads : {X : Type 0} (d : X) (f : X → List ℕ) (x y : X) (xs ys : List X) → RisesBy d f (x ∷ xs) → RisesBy d f (y ∷ ys) → Contains (y ∷ ys) x → Contains (x ∷ xs) y → x ≡ y
 heads d f x y xs ys r s a b =
     ⊎_elim (λ e. sym e)
-    (λ later. ⊎_elim (λ e. e) (λ also. absurd (no_both (f y) (f x) (above_head d f y ys x s later) (above_head d f x xs y r also))) (contains_cases x xs y b))
-    (contains_cases y ys x a)
+    (λ later. ⊎_elim (λ e. e) (λ also. absurd (no_both (f y) (f x) (above_head d f y ys x s later) (above_head d f x xs y r also))) (first_or_rest x xs y b))
+    (first_or_rest y ys x a)
 
 -- two lists that rise and have the same elements are one
 pub same_sorted : {X : Type 0} (d : X) (f : X → List ℕ) (xs ys : List X) → RisesBy d f xs → RisesBy d f ys → ((z : X) → Contains xs z → Contains ys z) → ((z : X) → Contains ys z → Contains xs z) → xs ≡ ys
@@ -58,9 +58,9 @@ same_sorted d f (x ∷ xs) [] r s a b = absurd (none_in_none x (a x (contains_he
 same_sorted {X} d f (x ∷ xs) (y ∷ ys) r s a b =
     let e : x ≡ y = heads d f x y xs ys r s (a x (contains_head x xs)) (b y (contains_head y ys)) in
     let one : (z : X) → Contains xs z → Contains ys z = λ z h.
-    ⊎_elim (λ same. absurd (no_less (f x) (subst (λ w. slice_cmp nat_cmp (f x) (f w) ≡ Less) (sym (e ∙ same)) (above_head d f x xs z r h)))) (λ g. g) (contains_cases y ys z (a z (contains_tail x xs z h))) in
+    ⊎_elim (λ same. absurd (no_less (f x) (subst (λ w. slice_cmp nat_cmp (f x) (f w) ≡ Less) (sym (e ∙ same)) (above_head d f x xs z r h)))) (λ g. g) (first_or_rest y ys z (a z (contains_tail x xs z h))) in
     let two : (z : X) → Contains ys z → Contains xs z = λ z h.
-    ⊎_elim (λ same. absurd (no_less (f y) (subst (λ w. slice_cmp nat_cmp (f y) (f w) ≡ Less) (sym (sym e ∙ same)) (above_head d f y ys z s h)))) (λ g. g) (contains_cases x xs z (b z (contains_tail y ys z h))) in
+    ⊎_elim (λ same. absurd (no_less (f y) (subst (λ w. slice_cmp nat_cmp (f y) (f w) ≡ Less) (sym (sym e ∙ same)) (above_head d f y ys z s h)))) (λ g. g) (first_or_rest x xs z (b z (contains_tail y ys z h))) in
     let rest : xs ≡ ys = same_sorted d f xs ys (rises_tail d f x xs r) (rises_tail d f y ys s) one two in
     λ i. e i ∷ rest i
 

@@ -15,14 +15,6 @@ use Rattle.plan_certificate.proofs.Lines.{chosen_add, chosen_line, config_of, co
 
 -- ---- what is kept
 
-}
-  where
-    none_in : HasTotal [] → ⊥
-    none_in (v, (k, b, e)) = omega (arith, b)
-
-    none_year : HasInfeasible [] → ⊥
-    none_year (y, (k, b, e)) = omega (arith, b)
-
 -- the number of CHOSEN lines is the year of the last
 pub chosen_count : (lines : List CertLine) (r : Reading) → IsRead lines r → length r.chosen.items ≡ length (chosen_of lines)
 chosen_count lines r h = ap length (sym h.chosen) ∙ length-map (chosen_of lines) (λ (p : ℕ × List ℕ). p.1)

@@ -7,7 +7,7 @@ use Rattle.std.proofs.lemmas.Grind.{flat_map-append}
 use Rattle.std.proofs.lemmas.List.{get_or_default, length-append}
 use Rattle.deck_lines.specs.declared.line.CertLine.{CertLine}
 use Rattle.deck_lines.specs.declared.line.CertLine.TheVariants.{Come, Chosen, Total, Infeasible}
-use Rattle.wasp_fixed.proofs.Lists.{contains_cases, contains_tail}
+use Rattle.wasp_fixed.proofs.Lists.{contains_tail, first_or_rest}
 use Rattle.plan_certificate.specs.Reading.{chosen_by, chosen_of, line_at, no_line}
 use Rattle.plan_certificate.proofs.Aligned.{contains_head, none_in_none}
 
@@ -75,7 +75,7 @@ chosen_line (Chosen y g ∷ xs) year config c =
     ⊎_elim
     (λ (e : (y, g) ≡ (year, config)). (0, omega arith, λ i. Chosen ((e i).0) ((e i).1)))
     (λ later. contains_tail (Chosen y g) xs (Chosen year config) (chosen_line xs year config later))
-    (contains_cases (y, g) (chosen_of xs) (year, config) c)
+    (first_or_rest (y, g) (chosen_of xs) (year, config) c)
 
 pub line_chosen : (xs : List CertLine) (year : ℕ) (config : List ℕ) → Contains xs (Chosen year config) → Contains (chosen_of xs) (year, config)
 line_chosen [] year config c = absurd (none_in_none (Chosen year config) c)
@@ -86,4 +86,4 @@ line_chosen (Chosen y g ∷ xs) year config c =
     ⊎_elim
     (λ e. (0, omega arith, λ i. (year_of (e i), config_of (e i))))
     (λ later. contains_tail (y, g) (chosen_of xs) (year, config) (line_chosen xs year config later))
-    (contains_cases (Chosen y g) xs (Chosen year config) c)
+    (first_or_rest (Chosen y g) xs (Chosen year config) c)

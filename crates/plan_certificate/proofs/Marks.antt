@@ -86,14 +86,6 @@ marks_again lines year names old new h o m line = (
 
 -- ---- years
 
-)
-  where
-    never : HasMark marks line → ⊥
-    never g = ⊎_elim
-        (λ within. true≢false (sym g ∙ (ap (λ (xs : List Bool). get_or xs line false) e ∙ get_or-replicate {A = Bool} n line false false within)))
-        (λ past. true≢false (sym g ∙ (ap (λ (xs : List Bool). get_or xs line false) e ∙ get_or_past (replicate n false) line false (omega (arith, past, length-replicate {A = Bool} n false)))))
-        (cases_lt line n)
-
 pub below_more : (lines : List CertLine) (year : ℕ) (old new : List Bool) → ((line : ℕ) → HasMark old line ↔ IsAgainBelow lines year line) → MarksAgain lines year old new → (line : ℕ) → HasMark new line ↔ IsAgainBelow lines (year + 1) line
 below_more lines year old new h m line = (
   λ g. ⊎_elim (λ a. wider ((h line).0 a)) (λ a. (year, omega arith, a)) ((m line).0 g),

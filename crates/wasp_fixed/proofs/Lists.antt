@@ -34,12 +34,12 @@ all_flat {X} {Y} P f [] all = All-nil P
 all_flat {X} {Y} P f (x ∷ xs) all = All-append P (f x) (flat_map f xs) (All-head (λ (z : X). All P (f z)) x xs all) (all_flat P f xs (All-tail (λ (z : X). All P (f z)) x xs all))
 
 -- what a list contains is its first or in the rest
-contains_place : {X : Type 0} (x : X) (xs : List X) (z : X) (k : ℕ) → k < length (x ∷ xs) → get_or (x ∷ xs) k z ≡ z → (x ≡ z) ⊎ Contains xs z
-contains_place x xs z zero b e = inl e
-contains_place x xs z (suc k) b e = inr (k, omega (arith, b), e)
+first_or_later : {X : Type 0} (x : X) (xs : List X) (z : X) (k : ℕ) → k < length (x ∷ xs) → get_or (x ∷ xs) k z ≡ z → (x ≡ z) ⊎ Contains xs z
+first_or_later x xs z zero b e = inl e
+first_or_later x xs z (suc k) b e = inr (k, omega (arith, b), e)
 
-pub contains_cases : {X : Type 0} (x : X) (xs : List X) (z : X) → Contains (x ∷ xs) z → (x ≡ z) ⊎ Contains xs z
-contains_cases x xs z (k, b, e) = contains_place x xs z k b e
+pub first_or_rest : {X : Type 0} (x : X) (xs : List X) (z : X) → Contains (x ∷ xs) z → (x ≡ z) ⊎ Contains xs z
+first_or_rest x xs z (k, b, e) = first_or_later x xs z k b e
 
 pub contains_tail : {X : Type 0} (x : X) (xs : List X) (z : X) → Contains xs z → Contains (x ∷ xs) z
 contains_tail x xs z (k, b, e) = (suc k, omega (arith, b), e)
