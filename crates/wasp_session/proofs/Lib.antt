@@ -12,6 +12,10 @@ mod KeySteps
 mod ListSteps
 pub mod ModeLines
 mod NoSteps
+mod OnenessChecks
+mod OnenessKeys
+mod OnenessReports
+mod OnenessTellings
 mod OpenSteps
 mod PlanKeys
 mod PlanSteps

@@ -4,6 +4,7 @@ pub mod Checks
 pub mod Keys
 pub mod Listings
 pub mod Modes
+pub mod Oneness
 pub mod Said
 pub mod State
 pub mod Steps

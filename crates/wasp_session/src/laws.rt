@@ -1,7 +1,55 @@
-//! Laws about what is told of lines.
+//! Laws about what is told of lines: that it goes on line by line, and that it is one.
+ghost use Rattle.wasp_session.specs.Oneness.{
+  JudgementsAreOne,
+  KeyListsAreOne,
+  RefusalsAreOne,
+  ReportsAreOne,
+  TellingOfAFront,
+  TellingsAreOne,
+};
 ghost use Rattle.wasp_session.specs.Said.{TellingGoesOn};
+
+use tunnel_configs::listings_are_one;
 
 /// What is told of a line comes behind what was told of the lines before it.
 pub fn telling_goes_on()
     ensures { TellingGoesOn }
+{}
+
+/// A deck is refused for one reason, and for none where a PLAN on it is taken.
+pub fn refusals_are_one()
+    ensures { RefusalsAreOne }
+{
+    listings_are_one();
+}
+
+/// A case of a deck has one report.
+pub fn reports_are_one()
+    ensures { ReportsAreOne }
+{
+    listings_are_one();
+}
+
+/// One thing is said of a certificate on a deck.
+pub fn judgements_are_one()
+    ensures { JudgementsAreOne }
+{
+    listings_are_one();
+}
+
+/// The lines of a script have one text, with one number of CHOSEN lines and one count of NOs.
+pub fn tellings_are_one()
+    ensures { TellingsAreOne }
+{
+    listings_are_one();
+}
+
+/// Lists of the keys that lines demand have the same keys, and as many.
+pub fn key_lists_are_one()
+    ensures { KeyListsAreOne }
+{}
+
+/// What is told of lines is what is told of the first of them, and then what is told of those behind.
+pub fn telling_of_a_front()
+    ensures { TellingOfAFront }
 {}

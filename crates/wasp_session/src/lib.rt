@@ -28,5 +28,8 @@ mod settling;
 mod tests;
 
 pub use command::{Command, Step};
-pub use laws::telling_goes_on;
+pub use laws::{
+    judgements_are_one, key_lists_are_one, refusals_are_one, reports_are_one, telling_goes_on,
+    telling_of_a_front, tellings_are_one,
+};
 pub use session::Session;
