@@ -1,10 +1,10 @@
 -- The numbers of a statement in its form, by their places.
 use Rattle.std.proofs.Common.{◌≡◌, ℕ, zero, suc, ◌+◌, ◌-◌, ◌*◌, ◌%◌, ◌<◌, ◌≤◌, true, ◌&&◌, List, [], ◌∷◌, length, take, drop, slice_index, slice_index_or, ap, subst, ◌∙◌, arith, ⊎_elim}
-use Rattle.std.proofs.lemmas.Bool.{cases_lt, eqb-true}
+use Rattle.std.proofs.lemmas.Bool.{and_parts, cases_lt, eqb-true}
 use Rattle.std.proofs.lemmas.Bool.Decides.{nat_tests}
 use Rattle.std.proofs.lemmas.List.{get_or-take, get_or-drop, get_or_past, length-drop, length-take}
 use Rattle.std.proofs.Math.Nat.{mod-eq-sub-mod, mod-eq_of_lt, mul-le-mul_right}
-use Rattle.deck_lines.proofs.Ranges.{both, allows_each-length}
+use Rattle.deck_lines.proofs.Ranges.{allows_each-length}
 use Rattle.deck_lines.specs.Body.{BodyParts}
 use Rattle.deck_lines.specs.declared.form.Kind.{Kind}
 use Rattle.deck_lines.specs.declared.form.Kind.TheVariants as kinds
@@ -19,8 +19,8 @@ kind_bounds kinds.Periods n h = (grind (arith, nat_tests), grind (arith, nat_tes
 each_at : (ks : List Kind) (ns : List ℕ) → allows_each ks ns ≡ true → (i : ℕ) → i < length ks → allows (slice_index_or ks i kinds.Periods) (slice_index ns i) ≡ true
 each_at [] ns h i lt = absurd (omega arith)
 each_at (kind ∷ ks) [] h i lt = absurd cc
-each_at (kind ∷ ks) (n ∷ ns) h zero lt = (both (allows kind n) (allows_each ks ns) h).0
-each_at (kind ∷ ks) (n ∷ ns) h (suc i) lt = each_at ks ns (both (allows kind n) (allows_each ks ns) h).1 i (omega arith)
+each_at (kind ∷ ks) (n ∷ ns) h zero lt = (and_parts (allows kind n) (allows_each ks ns) h).0
+each_at (kind ∷ ks) (n ∷ ns) h (suc i) lt = each_at ks ns (and_parts (allows kind n) (allows_each ks ns) h).1 i (omega arith)
 
 -- each number of groups is of its kind
 pub groups_at : (ks : List Kind) (least most : ℕ) (ns : List ℕ) → 0 < length ks → are_groups ks least most ns ≡ true → (i : ℕ) → i < length ns → allows (slice_index_or ks (i % length ks) kinds.Periods) (slice_index ns i) ≡ true
@@ -29,7 +29,7 @@ groups_at ks least zero (n ∷ ns) some h i lt = absurd cc
 groups_at ks least (suc more) [] some h i lt = absurd (omega arith)
 groups_at ks least (suc more) (n ∷ ns) some h i lt =
     let all : List ℕ = n ∷ ns in
-    let b = both (allows_each ks (take (length ks) all)) (are_groups ks (least - 1) more (drop (length ks) all)) h in
+    let b = and_parts (allows_each ks (take (length ks) all)) (are_groups ks (least - 1) more (drop (length ks) all)) h in
     ⊎_elim
     (λ below. let e : i % length ks ≡ i = mod-eq_of_lt below in
     rw e (subst (λ (x : ℕ). allows (slice_index_or ks i kinds.Periods) x ≡ true) (get_or-take (length ks) all i 0 below) (each_at ks (take (length ks) all) b.0 i below)))
@@ -67,7 +67,7 @@ groups_count ks least zero (n ∷ ns) h = absurd cc
 groups_count ks least (suc more) [] h = record { groups = 0; low = omega (arith, eqb-true least 0 h); high = omega arith; count = omega arith }
 groups_count ks least (suc more) (n ∷ ns) h =
     let all : List ℕ = n ∷ ns in
-    let b = both (allows_each ks (take (length ks) all)) (are_groups ks (least - 1) more (drop (length ks) all)) h in
+    let b = and_parts (allows_each ks (take (length ks) all)) (are_groups ks (least - 1) more (drop (length ks) all)) h in
     let whole : length ks ≤ length all = take_whole (length ks) all (allows_each-length ks (take (length ks) all) b.0) in
     one_group (length ks) least more (length all) whole (subst (λ (x : ℕ). AreCounted (length ks) (least - 1) more x) (length-drop (length ks) all) (groups_count ks (least - 1) more (drop (length ks) all) b.1))
 
@@ -76,13 +76,13 @@ pub groups_of : (h : Head) (b : BodyParts) → IsStatement (record { head = h; b
 unfolding is_statement
 groups_of h b s =
     let form = layout_of (word_of h) in
-    (both (allows_each form.index (index_of h) && is_named form.naming b.name) (are_groups form.group form.least form.most b.numbers) s).1
+    (and_parts (allows_each form.index (index_of h) && is_named form.naming b.name) (are_groups form.group form.least form.most b.numbers) s).1
 
 pub name_of : (h : Head) (b : BodyParts) → IsStatement (record { head = h; body = b }) → is_named (form_of h).naming b.name ≡ true
 unfolding is_statement
 name_of h b s =
     let form = layout_of (word_of h) in
-    (both (allows_each form.index (index_of h)) (is_named form.naming b.name) (both (allows_each form.index (index_of h) && is_named form.naming b.name) (are_groups form.group form.least form.most b.numbers) s).0).1
+    (and_parts (allows_each form.index (index_of h)) (is_named form.naming b.name) (and_parts (allows_each form.index (index_of h) && is_named form.naming b.name) (are_groups form.group form.least form.most b.numbers) s).0).1
 
 pub form_is : (h : Head) (b : BodyParts) → IsStatement (record { head = h; body = b }) → IsFormOf h b.numbers
 form_is h b s =

@@ -81,7 +81,7 @@ pub fn greatest_at(deck: &Deck, place: usize) -> u64
 }
 
 /// Whether there are more configurations up to these counts than codes have room for.
-#[tactic(auto, using(crate::proofs::Sizes::size_more, crate::proofs::Sizes::size_part))]
+#[tactic(auto, using(crate::proofs::Sizes::size_more, year_system::proofs::Radix::size_take))]
 fn are_many(greatest: &[u8]) -> bool
     ensures { result ≡ nat_lt (2 ^ 50) (size greatest.now) }
 {

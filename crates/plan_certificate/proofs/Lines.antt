@@ -79,9 +79,9 @@ chosen_line (Chosen y g ∷ xs) year config c =
 
 pub line_chosen : (xs : List CertLine) (year : ℕ) (config : List ℕ) → Contains xs (Chosen year config) → Contains (chosen_of xs) (year, config)
 line_chosen [] year config c = absurd (none_in_none (Chosen year config) c)
-line_chosen (Come y g v ∷ xs) year config c = ⊎_elim (λ e. absurd (omega (arith, ap kind e))) (λ later. line_chosen xs year config later) (contains_cases (Come y g v) xs (Chosen year config) c)
-line_chosen (Total t ∷ xs) year config c = ⊎_elim (λ e. absurd (omega (arith, ap kind e))) (λ later. line_chosen xs year config later) (contains_cases (Total t) xs (Chosen year config) c)
-line_chosen (Infeasible y ∷ xs) year config c = ⊎_elim (λ e. absurd (omega (arith, ap kind e))) (λ later. line_chosen xs year config later) (contains_cases (Infeasible y) xs (Chosen year config) c)
+line_chosen (Come y g v ∷ xs) year config c = ⊎_elim (λ e. absurd (omega (arith, ap kind e))) (λ later. line_chosen xs year config later) (first_or_rest (Come y g v) xs (Chosen year config) c)
+line_chosen (Total t ∷ xs) year config c = ⊎_elim (λ e. absurd (omega (arith, ap kind e))) (λ later. line_chosen xs year config later) (first_or_rest (Total t) xs (Chosen year config) c)
+line_chosen (Infeasible y ∷ xs) year config c = ⊎_elim (λ e. absurd (omega (arith, ap kind e))) (λ later. line_chosen xs year config later) (first_or_rest (Infeasible y) xs (Chosen year config) c)
 line_chosen (Chosen y g ∷ xs) year config c =
     ⊎_elim
     (λ e. (0, omega arith, λ i. (year_of (e i), config_of (e i))))

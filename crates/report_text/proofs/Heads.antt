@@ -14,8 +14,9 @@ use Rattle.plan_program.specs.declared.solved.Outcome.{Outcome}
 use Rattle.plan_program.specs.declared.solved.Outcome.TheVariants.{Plan, Infeasible}
 use Rattle.plan_certificate.specs.Certificate.{IsClaim}
 use Rattle.plan_certificate.specs.Reading.{IsClaimedBy, IsComplete, chosen_by, chosen_of}
-use Rattle.plan_certificate.proofs.Aligned.{contains_head, contains_tail, none_in_none}
+use Rattle.plan_certificate.proofs.Aligned.{contains_head, none_in_none}
 use Rattle.plan_certificate.proofs.Lines.{chosen_add, contains_cases, contains_end, kind}
+use Rattle.wasp_fixed.proofs.Lists.{contains_tail}
 use Rattle.report_text.specs.declared.data.PlanYear.{PlanYear}
 use Rattle.report_text.specs.Report.{outcome_line, plan_of}
 use Rattle.report_text.proofs.Following.{ChosenFollow, Follow, before_first, chosen_follow, follow_append, infeasible_good, no_come, total_good}

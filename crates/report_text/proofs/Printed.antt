@@ -9,9 +9,9 @@ use Rattle.deck_lines.specs.declared.line.Mode.TheVariants as modes
 use Rattle.deck_lines.specs.declared.line_word.LineWord.{LineWord}
 use Rattle.deck_lines.specs.Canonical as plain
 use Rattle.deck_lines.specs.Grammar.{bad_byte, behind, is_line_byte, line_of, line_word_of, text_line}
-use Rattle.deck_lines.proofs.Ranges.{both}
 use Rattle.deck_lines.proofs.Texts.{IsPlain, ArePlain, placed, all_words, text_line_bytes, bad_byte-none, less_return-same}
 use Rattle.deck_lines.proofs.ReadLine.{below_limit}
+use Rattle.std.proofs.lemmas.Bool.{and_parts}
 use Rattle.report_text.specs.Lines.{line, spaced}
 use Rattle.report_text.proofs.Digits.{digits_few, digits_plain}
 
@@ -53,7 +53,7 @@ line_byte b h e = grind (arith, nat_tests)
 
 pub no_feed : (text : List ℕ) → list_all is_line_byte text ≡ true → All (λ b. b ≢ 10) text
 no_feed [] h = All-nil (λ (b : ℕ). b ≢ 10)
-no_feed (b ∷ bs) h = let p = both (is_line_byte b) (list_all is_line_byte bs) h in All-cons (λ (c : ℕ). c ≢ 10) b bs (line_byte b p.0) (no_feed bs p.1)
+no_feed (b ∷ bs) h = let p = and_parts (is_line_byte b) (list_all is_line_byte bs) h in All-cons (λ (c : ℕ). c ≢ 10) b bs (line_byte b p.0) (no_feed bs p.1)
 
 -- ---- the line of a text
 
