@@ -3,5 +3,5 @@ mod CodeLaws
 mod DemandSteps
 mod FillSteps
 mod PlaceSteps
-mod RunLaws
+pub mod RunLaws
 pub mod WorkSteps

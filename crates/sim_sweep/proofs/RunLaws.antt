@@ -18,11 +18,11 @@ use Rattle.year_system.specs.System.{System}
 use Rattle.year_system.proofs.CodeParts.{one_key}
 
 -- what holds of the demands holds of the first and of the new ones
-all_first : (P : Demand → Type 0) (ds : List Demand) → All P ds → All P (first_demands ds)
+pub all_first : (P : Demand → Type 0) (ds : List Demand) → All P ds → All P (first_demands ds)
 all_first P [] all = All-nil P
 all_first P (d ∷ ds) all = All-cons P d _ (All-head P d ds all) (All-filter (λ e. not (eqb d.code e.code)) P (first_demands ds) (all_first P ds (All-tail P d ds all)))
 
-all_new : (P : Demand → Type 0) (rows : List KeptRow) (ds : List Demand) → All P ds → All P (new_demands rows ds)
+pub all_new : (P : Demand → Type 0) (rows : List KeptRow) (ds : List Demand) → All P ds → All P (new_demands rows ds)
 all_new P rows ds all = All-filter (λ d. is_none (words_in rows d.code)) P (first_demands ds) (all_first P ds all)
 
 -- the run of a demand

@@ -2,4 +2,4 @@ mod Boxes
 mod Gathered
 mod Margins
 mod Risings
-mod Sizes
+pub mod Sizes
