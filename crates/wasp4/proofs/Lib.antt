@@ -1,4 +1,5 @@
 pub mod Fronts
+pub mod OneText
 pub mod Progressing
 pub mod Refusing
 pub mod Running

@@ -8,12 +8,14 @@
 
 ghost use Rattle.std.specs.Prelude.{◌≡◌};
 
+mod laws;
 mod putting;
 mod status;
 mod top;
 mod turn;
 mod words;
 
+pub use laws::{texts_are_one, texts_go_on};
 use sim_engine::PlainEngine;
 pub use status::{Ending, Status};
 use std::alloc::Global;
