@@ -4,7 +4,7 @@ use Rattle.std.specs.Prelude.{◌≡◌, ℕ, ◌⊎◌, List, ◌++◌}
 use Rattle.wasp_session.specs.Oneness.{AreSameKeys}
 use Rattle.wasp4.specs.Out.{IsAnswered, IsFront}
 use Rattle.wasp4.specs.Script.{Script}
-use Rattle.wasp4.specs.Work.{Work}
+use Rattle.sim_engine.specs.Engine.{Work}
 
 -- two answers to a script say the same, with one count of NOs, and demand the same keys, as many
 pub record AreAlike (script : Script) (said other : List ℕ) (start now start' now' : Work) (one : IsAnswered script said start now) (two : IsAnswered script other start' now') : Type 0 where

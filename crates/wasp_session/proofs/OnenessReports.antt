@@ -1,5 +1,5 @@
 -- Refusals and reports are one.
-use Rattle.std.proofs.Common.{◌≡◌, ℕ, suc, ◌+◌, ◌<◌, ◌⊎◌, List, [], ◌∷◌, length, get_or, map, drop, sym, ap, ◌∙◌, arith, refl, subst, ⊎_elim, inl, inr}
+use Rattle.std.proofs.Common.{◌≡◌, ℕ, ◌+◌, ◌<◌, ◌⊎◌, List, [], ◌∷◌, length, get_or, map, drop, sym, ap, ◌∙◌, arith, refl, subst, ⊎_elim, inl, inr}
 use Rattle.std.proofs.lemmas.Bool.{cases_eq, cases_lt}
 use Rattle.cost_terms.specs.Cost.{fuel, nothing_built, unserved, upkeep}
 use Rattle.cost_terms.specs.Table.{Table}
@@ -19,6 +19,7 @@ use Rattle.report_text.specs.declared.refusals.Refusal.{Refusal}
 use Rattle.report_text.specs.declared.refusals.Refusal.TheVariants.{Deck, Wide, Many}
 use Rattle.sim_engine.specs.Row.{row_of}
 use Rattle.tunnel_configs.specs.Listed.{ListingsAreOne}
+use Rattle.wasp_fixed.proofs.Lists.{list_ext}
 use Rattle.wasp_session.proofs.DeckTold.{fault_not_taken, over_not_taken, over_not_within}
 use Rattle.wasp_session.specs.Case.{AreYearsFrom, IsLayerOf, IsTableOf, IsYearOf, accepted_of, built_of, generations_of, ran_of}
 use Rattle.wasp_session.specs.Listings.{ComesBefore, IsFirstOver, IsOver, IsOverIn, IsRefusalOf, IsTaken}
@@ -100,15 +101,6 @@ pub one_refusal : ListingsAreOne → RefusalsAreOne
 one_refusal one = record { one = refusal_one one; apart = refusal_apart one }
 
 -- ---- tables
-
-list_ext : {X : Type 0} (d : X) (xs ys : List X) → length xs ≡ length ys → ((k : ℕ) → k < length xs → get_or xs k d ≡ get_or ys k d) → xs ≡ ys
-list_ext d [] [] n e = refl
-list_ext d [] (y ∷ ys) n e = absurd (omega (arith, n))
-list_ext d (x ∷ xs) [] n e = absurd (omega (arith, n))
-list_ext {X} d (x ∷ xs) (y ∷ ys) n e =
-    let head : x ≡ y = e 0 (omega arith) in
-    let rest : xs ≡ ys = list_ext d xs ys (omega (arith, n)) (λ k h. e (suc k) (omega (arith, h))) in
-    λ i. head i ∷ rest i
 
 layer_one : ListingsAreOne → (d : Says) (c t : ℕ) (x y : List Scored) → IsLayerOf d c t x → IsLayerOf d c t y → x ≡ y
 layer_one one d c t x y a b =
