@@ -1,5 +1,5 @@
 -- Counts that rise by several runs.
-use Rattle.std.proofs.Common.{◌≡◌, ℕ, zero, suc, ◌+◌, ◌-◌, ◌^◌, ◌<◌, min, refl, sym, ap, arith, ◌∙◌}
+use Rattle.std.proofs.Common.{◌≡◌, ℕ, zero, suc, ◌+◌, ◌^◌, ◌<◌, ap, arith, ◌∙◌}
 use Rattle.sim_engine.specs.Engine.{counted, raised}
 
 counted_below : (c : ℕ) → c + 1 < 2 ^ 64 → counted c ≡ c + 1

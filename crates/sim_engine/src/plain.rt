@@ -1,5 +1,5 @@
 //! The plain engine.
-ghost use Rattle.std.specs.Prelude.{◌≡◌, ℕ, ◌+◌, ◌≤◌, ◌<◌, [], length, IfOk, OnOk, OnErr, None};
+ghost use Rattle.std.specs.Prelude.{◌≡◌, ℕ, ◌+◌, ◌≤◌, ◌<◌, [], length, IfOk, IsOk, OnOk, OnErr, None};
 ghost use Rattle.sim_engine.specs.Engine.{no_room, widened};
 
 use crate::engine::SimEngine;
@@ -86,6 +86,7 @@ impl PlainEngine {
         ensures cells_stay { self.old.room.cells ≤ self.new.room.cells }
         ensures units_stay { self.old.room.units ≤ self.new.room.units }
         ensures least { OnOk result (self.new.room ≡ widened self.old.room cells units) }
+        ensures enough { cells ≤ self.old.room.cells → units ≤ self.old.room.units → IsOk result }
         ensures err { OnErr result (self.new ≡ self.old) }
         ensures simulated { self.new.simulated ≡ self.old.simulated }
         ensures detailed { self.new.detailed ≡ self.old.detailed }
