@@ -16,4 +16,3 @@ mod numbers;
 pub use discounts::{discount, half_factor, middle};
 pub use memory::OutOfMemory;
 pub use numbers::{M, ONE, mul_div_floor};
-
