@@ -1,6 +1,7 @@
-use Rattle.std.proofs.Common.{◌≤◌, All, arith}
+use Rattle.std.proofs.Common.{◌≤◌, All, refl, arith}
 use Rattle.std.proofs.lemmas.Result.{on_ok_weaker}
 use Rattle.deck_lines.specs.Deck.{body_of}
+use Rattle.wasp_session.proofs.GrowSteps.{grows_same, grows_since}
 use Rattle.wasp_session.proofs.ListSteps.{has_years, year_room}
 use Rattle.wasp_session.proofs.PlanKeys.{simulates_since}
 use Rattle.wasp_session.specs.Keys.{IsKeyOf}
@@ -34,10 +35,33 @@ tell_cases-requires-clause-room g c κs outlives =
 pub returns-clause-keys : goal.returns-clause-keys
 returns-clause-keys g c =
     let e = g.E.SimEngine in
-    let same = c.in_ok-ready.ensures in
-    let end = c.tell_cases.ensures in
-    let keys = simulates_since (IsKeyOf (body_of c.args.typed.now)) c.args.book.now c.intern_all.new.book c.args.kept.now c.fill_keys.new.kept _
-    (e.simulated c.args.engine.now) (e.simulated c.ready.new.self) (e.simulated c.fill_keys.new.engine) (e.simulated c.tell_cases.new.engine)
-    (e.tape c.args.engine.now) (e.tape c.ready.new.self) (e.runs c.args.engine.now) (e.runs c.ready.new.self) (e.runs c.fill_keys.new.engine) (e.runs c.tell_cases.new.engine)
-    c.in_ok-intern_all.ensures.grown c.len-systems.ensures.valid c.requires.due same.simulated same.tape same.runs end.simulated end.runs c.in_ok-fill_keys.ensures.keys in
-    on_ok_weaker c.tell_cases.result (λ told. keys) end.told
+    let keys = simulates_since (IsKeyOf (body_of c.args.typed.now)) c.args.book.now c.intern_all.new.book c.args.systems.items c.args.kept.now c.fill_keys.new.kept
+    (e.work c.args.engine.now) (e.work c.ready.new.self) (e.work c.fill_keys.new.engine) (e.work c.tell_cases.new.engine)
+    c.intern_all.ensures.grown c.len-systems.ensures.valid c.requires.due c.ready.ensures.work c.tell_cases.ensures.work c.in_ok-fill_keys.ensures.keys in
+    on_ok_weaker c.tell_cases.result (λ told. keys) c.tell_cases.ensures.told
+
+pub returns-in_err-intern_all-clause-grows : goal.returns-in_err-intern_all-clause-grows
+returns-in_err-intern_all-clause-grows g c =
+    let d = body_of c.args.typed.now in
+    let now = c.intern_all.new.book in
+    grows_since d (IsKeyOf d) c.args.book.now now c.args.systems.items c.args.kept.now c.args.kept.now c.requires.systems c.intern_all.ensures.grown c.len-systems.ensures.valid c.requires.due
+    (grows_same d (IsKeyOf d) now now c.args.kept.now c.args.kept.now refl refl)
+
+pub returns-in_err-ready-clause-grows : goal.returns-in_err-ready-clause-grows
+returns-in_err-ready-clause-grows g c =
+    let d = body_of c.args.typed.now in
+    let now = c.intern_all.new.book in
+    grows_since d (IsKeyOf d) c.args.book.now now c.args.systems.items c.args.kept.now c.args.kept.now c.requires.systems c.intern_all.ensures.grown c.len-systems.ensures.valid c.requires.due
+    (grows_same d (IsKeyOf d) now now c.args.kept.now c.args.kept.now refl refl)
+
+pub returns-in_err-fill_keys-clause-grows : goal.returns-in_err-fill_keys-clause-grows
+returns-in_err-fill_keys-clause-grows g c =
+    let d = body_of c.args.typed.now in
+    grows_since d (IsKeyOf d) c.args.book.now c.intern_all.new.book c.args.systems.items c.args.kept.now c.fill_keys.new.kept c.requires.systems c.intern_all.ensures.grown c.len-systems.ensures.valid c.requires.due
+    c.fill_keys.ensures.grows
+
+pub returns-clause-grows : goal.returns-clause-grows
+returns-clause-grows g c =
+    let d = body_of c.args.typed.now in
+    grows_since d (IsKeyOf d) c.args.book.now c.intern_all.new.book c.args.systems.items c.args.kept.now c.fill_keys.new.kept c.requires.systems c.intern_all.ensures.grown c.len-systems.ensures.valid c.requires.due
+    c.fill_keys.ensures.grows
