@@ -14,5 +14,7 @@ counts_sum (suc n) count lt =
 
 -- so many and then so many more
 pub raised_then : (m n count : ℕ) → raised n (raised m count) ≡ raised (m + n) count
-raised_then m zero count = ap (λ (k : ℕ). raised k count) (omega arith)
-raised_then m (suc n) count = rw (raised_then m n count) (ap (λ (k : ℕ). raised k count) (omega arith))
+raised_then m zero count = let e : m ≡ m + 0 = omega arith in ap (λ (k : ℕ). raised k count) e
+raised_then m (suc n) count =
+    let e : suc (m + n) ≡ m + suc n = omega arith in
+    ap counted (raised_then m n count) ∙ ap (λ (k : ℕ). raised k count) e

@@ -2,6 +2,6 @@ mod CaseSteps
 mod CodeLaws
 mod DemandSteps
 mod FillSteps
-mod GasCase
 mod PlaceSteps
 mod RunLaws
+pub mod WorkSteps
