@@ -25,6 +25,9 @@ judge_settled-requires-clause-numbers g c =
     rw c.deref-3.ensures.value
     (has_years (body_of c.args.typed.now) c.intern_all-interned.new.book c.args.systems.items c.intern_all-interned.new.ids.items c.requires.systems c.in_ok-interned.ensures.ids)
 
+pub judge_settled-requires-clause-filled : goal.judge_settled-requires-clause-filled
+judge_settled-requires-clause-filled g c = rw c.deref-3.ensures.value (rw c.deref-2.ensures.value at c.in_ok-fill_case.ensures.filled)
+
 pub returns-clause-keys : goal.returns-clause-keys
 returns-clause-keys g c =
     let e = g.E.SimEngine in

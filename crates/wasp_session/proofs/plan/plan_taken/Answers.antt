@@ -32,6 +32,9 @@ tell_cases-requires-clause-room g c κs outlives =
     let units_in : r.1 ≤ (g.E.SimEngine.room c.fill_keys.new.engine).units = omega (arith, c.in_ok-ready.ensures.units, c.in_ok-fill_keys.ensures.units_stay) in
     year_room (body_of c.args.typed.now) c.args.systems.items r.0 r.1 (g.E.SimEngine.room c.fill_keys.new.engine) c.requires.systems all cells_in units_in
 
+pub tell_cases-requires-clause-filled : goal.tell_cases-requires-clause-filled
+tell_cases-requires-clause-filled g c κs outlives = rw c.deref-3.ensures.value (rw c.deref-2.ensures.value at c.in_ok-fill_keys.ensures.filled)
+
 pub returns-clause-keys : goal.returns-clause-keys
 returns-clause-keys g c =
     let e = g.E.SimEngine in
