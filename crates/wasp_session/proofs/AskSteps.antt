@@ -12,7 +12,7 @@ use Rattle.sim_engine.specs.Engine.{Room, Run}
 use Rattle.sim_sweep.specs.Demands.{HasRoomFor, IsDemand, first_demands, new_demands, run_in}
 use Rattle.sim_sweep.specs.Kept.{words_in}
 use Rattle.sim_sweep.specs.declared.demand.Demand.{Demand}
-use Rattle.wasp_session.proofs.EachSteps.{at_place}
+use Rattle.wasp_session.proofs.EachSteps.{at_place, in_place}
 use Rattle.wasp_session.proofs.KeySteps.{in_cases, in_none, in_rest}
 use Rattle.wasp_session.specs.Keys.{IsKeyOf}
 use Rattle.wasp_session.specs.Steps.{AreCaseLists, AreYearLists, FitBook, HasYearRoom, HasYears, IsYearList, all_demands, case_demands, demands_of, year_demands}
@@ -63,11 +63,6 @@ in_zip (i ∷ is) (y ∷ xs) (suc k) id x a b = in_rest (i, y) (zip is xs) (id, 
 pub in_map : {X Y : Type 0} (f : X → Y) (xs : List X) (x : X) → Contains xs x → Contains (map f xs) (f x)
 in_map f [] x has = absurd (in_none x has)
 in_map f (z ∷ xs) x has = ⊎_elim (λ here. (0, omega arith, ap f here)) (λ rest. in_rest (f z) (map f xs) (f x) (in_map f xs x rest)) (in_cases z xs x has)
-
-in_place : {X : Type 0} (xs : List X) (k : ℕ) (x : X) → slice_get xs k ≡ Some x → Contains xs x
-in_place [] k x a = cc
-in_place (y ∷ xs) zero x a = (0, omega arith, same_Some _ _ a)
-in_place (y ∷ xs) (suc k) x a = in_rest y xs x (in_place xs k x a)
 
 -- ---- demands
 

@@ -1,5 +1,5 @@
 -- The keys that a case demands, and what filling its demands does to those that are kept.
-use Rattle.std.proofs.Common.{◌≡◌, ◌∙◌, ap, sym, refl, subst, ℕ, ◌+◌, ◌-◌, ◌<◌, ◌≤◌, List, [], ◌++◌, All, Contains, Option, Some, length, min, slice_get, arith}
+use Rattle.std.proofs.Common.{◌≡◌, ◌∙◌, ap, sym, refl, subst, ℕ, ◌+◌, ◌-◌, ◌<◌, ◌≤◌, List, [], ◌++◌, All, Contains, Some, length, min, slice_get, arith}
 use Rattle.std.specs.List.{flat_map, zip}
 use Rattle.std.proofs.lemmas.List.{length-map}
 use Rattle.std.proofs.lemmas.List.Elements.{All-contains, All-map}
@@ -8,13 +8,12 @@ use Rattle.std.proofs.lemmas.Slice.Zip.{length-zip}
 use Rattle.board_core.specs.declared.row.KeptRow.{KeptRow}
 use Rattle.checked_deck.specs.Systems.{system}
 use Rattle.deck_check.specs.Readings.{Says, cases, years}
-use Rattle.sim_engine.specs.Engine.{Room, Run, Tape}
-use Rattle.sim_sweep.specs.Demands.{HasRoomFor, IsDemand, IsFilled, NewCodesComeOnce, new_demands, run_in, runs_of}
+use Rattle.sim_engine.specs.Engine.{Room, Run, Work}
+use Rattle.sim_sweep.specs.Demands.{HasRoomFor, IsDemand, IsFilled, NewCodesComeOnce, run_in}
 use Rattle.sim_sweep.specs.declared.demand.Demand.{Demand}
 use Rattle.wasp_session.proofs.AskSteps.{all_flat, all_zip, flat_all, in_flat, in_map, in_zip, length_flat, one_demand, year_all, year_is}
 use Rattle.wasp_session.proofs.EachSteps.{at_place}
-use Rattle.wasp_session.proofs.FillKeys.{AreAsked, HasFilled}
-use Rattle.wasp_session.proofs.KeySteps.{adds_keys, all_new, length_runs}
+use Rattle.wasp_session.proofs.FillKeys.{AreAsked, HasFilled, asked_simulated}
 use Rattle.wasp_session.specs.Keys.{IsCaseKeyOf}
 use Rattle.wasp_session.specs.State.{AreOnes}
 use Rattle.wasp_session.specs.Steps.{AreYearLists, HasYearRoom, HasYears, IsYearList, Simulates, case_demands, year_demands}
@@ -116,20 +115,13 @@ case_filled book ids ys ds now asked all =
     All-map (All (IsFilled book now)) (year_demands book) (zip ids ys)
     (flat_all (IsFilled book now) (year_demands book) (zip ids ys) (subst (All (IsFilled book now)) asked all))
 
-pub case_simulates : NewCodesComeOnce → (d : Says) (book : List System) (ids : List ℕ) (c : ℕ) (ys : List (List (List ℕ))) (ds : List Demand) (kept now : List KeptRow) (count count_now : ℕ) (tape : Option Tape) (runs runs_now : Option (List Run))
+pub case_simulates : NewCodesComeOnce → (d : Says) (book : List System) (ids : List ℕ) (c : ℕ) (ys : List (List (List ℕ))) (ds : List Demand) (kept now : List KeptRow) (before after : Work)
     → 1 ≤ c → c ≤ cases d → AreOnes book → All IsSystem book → HasYears d book ids → AreYearLists d c ys → ds ≡ demands_in book ids ys
-    → HasFilled book kept now count count_now tape runs runs_now ds → Simulates (IsCaseKeyOf d c) book kept book now count count_now tape runs runs_now
-case_simulates come_once d book ids c ys ds kept now count count_now tape runs runs_now low high ones systems numbers are asked has =
+    → HasFilled book kept now before after ds → Simulates (IsCaseKeyOf d c) book kept book now before after
+case_simulates come_once d book ids c ys ds kept now before after low high ones systems numbers are asked has =
     let all = demands_in book ids ys in
-    let f = subst (HasFilled book kept now count count_now tape runs runs_now) asked has in
-    let demands = are_demands_in d book ids c ys numbers are in
     let keys = are_keys_in d book ids c ys low high numbers are in
-    record {
-      new = runs_of book (new_demands kept all);
-      adds = adds_keys come_once (IsCaseKeyOf d c) book kept now all ones systems demands f.filled f.stays f.only f.many
-          (λ e key has is. All-contains (λ (z : Demand). (k : Run) → run_in book z ≡ Some k → IsCaseKeyOf d c k) all e keys has key is)
-          (λ key is. all_asked_in d book ids c ys key numbers are is);
-      counts = f.counts ∙ ap (λ (n : ℕ). count + n) (sym (length_runs book (new_demands kept all) (all_new (IsDemand book) kept all demands)));
-      told = f.told;
-      only_told = f.only_told;
-    }
+    asked_simulated come_once (IsCaseKeyOf d c) book kept now before after all ones systems (are_demands_in d book ids c ys numbers are)
+    (λ e key has is. All-contains (λ (z : Demand). (k : Run) → run_in book z ≡ Some k → IsCaseKeyOf d c k) all e keys has key is)
+    (λ key is. all_asked_in d book ids c ys key numbers are is)
+    (subst (HasFilled book kept now before after) asked has)

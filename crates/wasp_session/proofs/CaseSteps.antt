@@ -7,6 +7,7 @@ use Rattle.std.proofs.lemmas.List.FromFn.{length-map-range_with_len}
 use Rattle.checked_deck.specs.Systems.{system}
 use Rattle.deck_check.specs.Readings.{Says}
 use Rattle.plant_data.specs.declared.plant.Plant.{Plant}
+use Rattle.sim_engine.specs.Engine.{raised}
 use Rattle.sim_engine.specs.Generation.{generations, group_generation, plant_generation}
 use Rattle.year_system.specs.System.{System}
 use Rattle.report_text.specs.Report.{case_text}
@@ -35,7 +36,7 @@ generation_step h k before after so_far more =
 
 -- a case is told by its report
 pub case_told : (d : Says) (c : ℕ) (report : CaseReport) (before after : List ℕ) (details now : ℕ) → IsReportOf d c report → IsAccepted d c (case_text c report) → after ≡ before ++ case_text c report
-    → now ≡ details + length report.years → Tells (IsCaseTold d c) before after details now
+    → now ≡ raised (length report.years) details → Tells (IsCaseTold d c) before after details now
 case_told d c report before after details now is accepted text chosen = record {
   told = record { text = case_text c report; chosen = length report.years; nos = 0 };
   is = record { report = report; is_of = is; text = refl; chosen = refl; nos = refl; accepted = accepted };

@@ -1,6 +1,5 @@
--- What is said of the certificate of a CHECK, and which keys the CHECK demands.
-use Rattle.std.proofs.Common.{◌≡◌, refl, subst, ℕ, ◌≤◌, List, Option, length, arith}
-use Rattle.board_core.specs.declared.row.KeptRow.{KeptRow}
+-- What is said of the certificate of a CHECK.
+use Rattle.std.proofs.Common.{◌≡◌, refl, subst, ℕ, ◌≤◌, List, length, arith}
 use Rattle.cost_terms.specs.Table.{Table}
 use Rattle.deck_check.specs.DeckFault.{HasNoFault}
 use Rattle.deck_check.specs.Readings.{Says, cases, greatest, years}
@@ -11,16 +10,13 @@ use Rattle.plan_certificate.specs.declared.judging.Verdict.{Verdict}
 use Rattle.report_text.specs.declared.refusals.Refusal.{Refusal}
 use Rattle.report_text.specs.declared.refusals.Refusal.TheVariants.{Deck, Wide, Many}
 use Rattle.report_text.specs.declared.verdicts.Judged.TheVariants.{Refused, Said}
-use Rattle.sim_engine.specs.Engine.{Run, Tape}
 use Rattle.tunnel_configs.specs.Listed.{ListingsAreOne}
 use Rattle.wasp_session.proofs.DeckTold.{over_not_within}
 use Rattle.wasp_session.proofs.ListSteps.{within_at}
 use Rattle.wasp_session.specs.Case.{IsTableOf}
-use Rattle.wasp_session.specs.Checks.{AreWithin, IsInForm, IsJudged, Open}
-use Rattle.wasp_session.specs.Keys.{DemandsChecked, IsCaseKeyOf}
+use Rattle.wasp_session.specs.Checks.{AreWithin, IsChecked, IsInForm, IsJudged, Open}
 use Rattle.wasp_session.specs.Listings.{IsOverIn}
-use Rattle.wasp_session.specs.Steps.{AreYearLists, Simulates}
-use Rattle.year_system.specs.System.{System}
+use Rattle.wasp_session.specs.Steps.{AreYearLists}
 
 -- ---- the form
 
@@ -45,6 +41,11 @@ case_within d c lists are = λ t low high. within_at d c (length lists) t lists 
 pub over_not_case : ListingsAreOne → (d : Says) (c : ℕ) (r : Refusal) → IsOverIn d c r → AreWithin d c → ⊥
 over_not_case one d c r over within = over_not_within one d c over.year r over.over (within over.year over.is_of.year.0 over.is_of.year.1)
 
+-- so the CHECK is neither refused nor failed in its form
+pub is_checked : (d : Says) (o : Open) (certificate : CertData) (lists : List (List (List ℕ))) → HasNoFault d → ReadingsAreOne → o.case ≤ cases d
+    → IsSaidBy (years d) (length (greatest d)) o.certificate certificate → AreYearLists d o.case lists → IsChecked d o
+is_checked d o certificate lists faultless one case said are = record { faultless = faultless; in_form = in_form one d o certificate case said; within = case_within d o.case lists are }
+
 -- ---- what is said
 
 pub over_judged : (d : Says) (o : Open) (r : Refusal) → HasNoFault d → IsInForm d o → IsOverIn d o.case r → IsJudged d o (Refused r)
@@ -56,26 +57,3 @@ pub verdict_judged : (d : Says) (o : Open) (certificate : CertData) (verdict : V
     → (table : Table) × IsTableOf d o.case table × IsVerdict table certificate verdict → IsJudged d o (Said verdict)
 verdict_judged d o certificate verdict faultless form within said (table, is_table, is_verdict) =
     (faultless, form, within, record { table = table; is_table = is_table; certificate = certificate; is_said = said; is_verdict = is_verdict })
-
--- ---- the keys
-
--- a CHECK that is neither refused nor failed in its form demands the keys of its case
-pub simulates_checked : (d : Says) (o : Open) (book : List System) (kept : List KeptRow) (book_now : List System) (kept_now : List KeptRow) (count count_now : ℕ) (tape : Option Tape) (runs runs_now : Option (List Run))
-    → HasNoFault d → IsInForm d o → AreWithin d o.case
-    → Simulates (IsCaseKeyOf d o.case) book kept book_now kept_now count count_now tape runs runs_now → Simulates (DemandsChecked d o) book kept book_now kept_now count count_now tape runs runs_now
-simulates_checked d o book kept book_now kept_now count count_now tape runs runs_now faultless form within s = record {
-  new = s.new;
-  adds = record {
-    once = s.adds.once;
-    fresh = s.adds.fresh;
-    asked = λ key has. record { faultless = faultless; in_form = form; within = within; is_key = s.adds.asked key has };
-    all = λ key is. s.adds.all key is.is_key;
-    stays = s.adds.stays;
-    stand = s.adds.stand;
-    only = s.adds.only;
-    many = s.adds.many;
-  };
-  counts = s.counts;
-  told = s.told;
-  only_told = s.only_told;
-}

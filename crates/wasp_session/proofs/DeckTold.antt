@@ -52,7 +52,7 @@ refusal_told d r before after details is text = record {
   told = plain (refusal_line r);
   is = inl (record { refusal = r; is_of = is; is = refl });
   text = text;
-  chosen = omega arith;
+  chosen = refl;
 }
 
 pub report_told : (d : Says) (before after : List ℕ) (details now : ℕ) → IsTaken d → Tells (AreCasesTold d (cases d)) before after details now → Tells (IsDeckTold d) before after details now

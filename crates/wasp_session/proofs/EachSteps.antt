@@ -1,6 +1,6 @@
 -- One thing more behind those that are so.
-use Rattle.std.proofs.Common.{◌≡◌, ℕ, zero, suc, ◌<◌, List, [], ◌∷◌, ◌++◌, Some, length, slice_get, refl, subst, ap, true≢false, is_some, sym, get_or, arith}
-use Rattle.std.proofs.lemmas.Option.{same_Some, slice_get-get_or}
+use Rattle.std.proofs.Common.{◌≡◌, ℕ, zero, suc, ◌<◌, List, [], ◌∷◌, ◌++◌, Contains, Some, length, slice_get, refl, subst, ap, true≢false, is_some, sym, get_or, arith}
+use Rattle.std.proofs.lemmas.Option.{get_or_from_slice_get, same_Some, slice_get-get_or, slice_get_within}
 use Rattle.wasp_session.specs.Steps.{EachAt}
 
 pub each_more : {X : Type 0} (Is : ℕ → X → Type 0) (xs : List X) (x : X) → EachAt Is xs → Is (length xs) x → EachAt Is (xs ++ x ∷ [])
@@ -18,3 +18,7 @@ pub at_place : {X : Type 0} (xs : List X) (k : ℕ) → k < length xs → (x : X
 at_place [] k h = absurd (omega (arith, h))
 at_place (x ∷ xs) zero h = (x, refl)
 at_place (x ∷ xs) (suc k) h = at_place xs k (omega (arith, h))
+
+-- and it is one of the list's
+pub in_place : {X : Type 0} (xs : List X) (k : ℕ) (x : X) → slice_get xs k ≡ Some x → Contains xs x
+in_place xs k x at = (k, slice_get_within xs k x at, get_or_from_slice_get xs k x x at)

@@ -213,10 +213,10 @@ front [] ys k x at = cc
 front (y ∷ xs) ys zero x at = at
 front (y ∷ xs) ys (suc k) x at = front xs ys k x at
 
-to_new : (book more : List System) (kept : List KeptRow) (key : Run) → IsKeptKey book kept key → IsKeptKey (book ++ more) kept key
+pub to_new : (book more : List System) (kept : List KeptRow) (key : Run) → IsKeptKey book kept key → IsKeptKey (book ++ more) kept key
 to_new book more kept key k = record { id = k.id; at = front book more k.id key.0 k.at; fits = k.fits; row = k.row }
 
-to_old : (book more : List System) (kept : List KeptRow) (key : Run) → All IsSystem (book ++ more) → AreDue book kept → IsKeptKey (book ++ more) kept key → IsKeptKey book kept key
+pub to_old : (book more : List System) (kept : List KeptRow) (key : Run) → All IsSystem (book ++ more) → AreDue book kept → IsKeptKey (book ++ more) kept key → IsKeptKey book kept key
 to_old book more kept key systems due k =
     let code = code_of k.id key.0 key.1 in
     let is = due code (row_words (row_of key.0 key.1)) k.row in

@@ -8,6 +8,7 @@ mod DemandLists
 mod EachSteps
 mod FillKeys
 pub mod FollowSteps
+mod GrowSteps
 mod KeySteps
 mod ListSteps
 pub mod ModeLines
@@ -25,4 +26,5 @@ mod ResultSteps
 mod SessionSteps
 mod SettleSteps
 pub mod TellSteps
+pub mod WorkSteps
 mod YearSteps

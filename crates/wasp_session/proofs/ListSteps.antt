@@ -2,7 +2,7 @@
 use Rattle.std.proofs.Common.{◌≡◌, ◌∙◌, ap, sym, refl, subst, ℕ, zero, suc, ◌+◌, ◌-◌, ◌<◌, ◌≤◌, ◌⊎◌, inl, inr, ⊎_elim, List, [], ◌∷◌, ◌++◌, All, Contains, Some, length, take, drop, get_or, slice_get, arith}
 use Rattle.std.proofs.lemmas.Bool.{cases_lt}
 use Rattle.std.proofs.lemmas.List.{append_assoc, length-append, take_all, take_more}
-use Rattle.std.proofs.lemmas.List.Elements.{All-append, All-cons, All-contains_itself, All-nil, All-weaker}
+use Rattle.std.proofs.lemmas.List.Elements.{All-append, All-cons, All-contains_itself, All-nil, All-push, All-weaker}
 use Rattle.std.proofs.lemmas.Option.{get_or_from_slice_get, same_Some, slice_get_within}
 use Rattle.deck_check.specs.Readings as says
 use Rattle.checked_deck.specs.Systems.{system}
@@ -80,10 +80,20 @@ pub record IsInterned (book now : List System) (s : System) (id : ℕ) : Type 0 
   pub found : id < length book → now ≡ book
   pub added : length book ≤ id → now ≡ book ++ s ∷ []
 
-pub grown_more : (initial book now : List System) (s : System) (id n : ℕ) → IsInterned book now s id → HasGrown initial book n → HasGrown initial now (n + 1)
-grown_more initial book now s id n is grown = ⊎_elim
-    (λ old. record { more = grown.more; is = is.found old ∙ grown.is; few = omega (arith, grown.few) })
-    (λ new. record { more = grown.more ++ s ∷ []; is = is.added new ∙ ap (λ (b : List System). b ++ s ∷ []) grown.is ∙ append_assoc initial grown.more (s ∷ []); few = omega (arith, grown.few, length-append grown.more (s ∷ [])) })
+pub grown_more : (initial book now systems : List System) (s : System) (id : ℕ) → IsInterned book now s id → Contains systems s → HasGrown initial book systems → HasGrown initial now systems
+grown_more initial book now systems s id is has grown = ⊎_elim
+    (λ old. record { more = grown.more; is = is.found old ∙ grown.is; among = grown.among })
+    (λ new. record {
+      more = grown.more ++ s ∷ [];
+      is = is.added new ∙ ap (λ (b : List System). b ++ s ∷ []) grown.is ∙ append_assoc initial grown.more (s ∷ []);
+      among = All-push (Contains systems) grown.more s grown.among has;
+    })
+    (cases_lt id (length book))
+
+pub few_more : (book now : List System) (s : System) (id : ℕ) → IsInterned book now s id → length now ≤ length book + 1
+few_more book now s id is = ⊎_elim
+    (λ old. let same = ap length (is.found old) in omega (arith, same))
+    (λ new. let more = ap length (is.added new) in omega (arith, more, length-append book (s ∷ [])))
     (cases_lt id (length book))
 
 pub ones_more : (book now : List System) (s : System) (id : ℕ) → IsInterned book now s id → AreOnes book → AreOnes now
@@ -174,9 +184,6 @@ rest_drop xs rest now n m e f at =
     twice [] (suc i) (suc j) h = refl
     twice (y ∷ ys) (suc i) zero h = absurd (omega (arith, h))
     twice (y ∷ ys) (suc i) (suc j) h = twice ys i j (omega (arith, h))
-
-pub grown_most : (initial now : List System) (n m : ℕ) → n ≤ m → HasGrown initial now n → HasGrown initial now m
-grown_most initial now n m le grown = record { more = grown.more; is = grown.is; few = omega (arith, le, grown.few) }
 
 -- ---- the years in the book
 

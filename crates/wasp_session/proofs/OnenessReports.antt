@@ -4,9 +4,10 @@ use Rattle.std.proofs.lemmas.Bool.{cases_eq, cases_lt}
 use Rattle.cost_terms.specs.Cost.{fuel, nothing_built, unserved, upkeep}
 use Rattle.cost_terms.specs.Table.{Table}
 use Rattle.cost_terms.specs.declared.entries.Scored.{Scored}
-use Rattle.deck_check.specs.Economy.{costs}
-use Rattle.deck_check.specs.Readings.{Says, system, years}
-use Rattle.deck_check.specs.TypedDeck.{limit, margin, tunnel}
+use Rattle.checked_deck.specs.Economy.{costs}
+use Rattle.checked_deck.specs.Systems.{system}
+use Rattle.deck_check.specs.Readings.{Says, years}
+use Rattle.checked_deck.specs.TypedDeck.{limit, margin, tunnel}
 use Rattle.deck_check.specs.declared.fault.DeckFault.{DeckFault}
 use Rattle.deck_check.proofs.Single.{met, single}
 use Rattle.plan_program.specs.Chosen.{IsSolution}

@@ -1,5 +1,5 @@
 -- A session's lines: none; one more, with the keys that it demands; one that demands none; and what is told of each.
-use Rattle.std.proofs.Common.{◌≡◌, ◌∙◌, ap, sym, refl, subst, ℕ, ◌+◌, ◌≤◌, ◌⊎◌, ⊎_elim, false, true≢false, is_some, List, [], ◌∷◌, ◌++◌, length, Option, Some, None, slice_get, arith}
+use Rattle.std.proofs.Common.{◌≡◌, ◌∙◌, ap, sym, refl, subst, ℕ, ◌+◌, ◌⊎◌, ⊎_elim, false, true≢false, is_some, List, [], ◌∷◌, ◌++◌, length, Option, Some, None, slice_get, arith}
 use Rattle.std.proofs.lemmas.List.{append-nil}
 use Rattle.board_core.specs.declared.row.KeptRow.{KeptRow}
 use Rattle.deck_check.specs.Readings.{Says}
@@ -12,15 +12,16 @@ use Rattle.deck_lines.specs.declared.statement.Statement.{Statement}
 use Rattle.report_text.specs.Lines.{keys_line}
 use Rattle.report_text.specs.Verdicts.{verdict_line}
 use Rattle.report_text.specs.declared.verdicts.Judged.{Judged}
-use Rattle.sim_engine.specs.Engine.{Run, Tape}
+use Rattle.sim_engine.specs.Engine.{Run, Work}
 use Rattle.sim_sweep.specs.Kept.{AreDue}
-use Rattle.wasp_session.specs.Checks.{IsJudged, Open, check_count, nos_of, open_at, open_behind, with_line}
-use Rattle.wasp_session.specs.Keys.{AreKeys, CountsKeys, DemandsAtEnd, DemandsChecked, DemandsOn}
+use Rattle.wasp_session.specs.Checks.{IsChecked, IsJudged, Open, check_count, nos_of, open_at, open_behind, with_line}
+use Rattle.wasp_session.specs.Keys.{AreKeys, CountsKeys, DemandsAtEnd, DemandsChecked, DemandsOn, IsCheckedAtEnd, IsTakenOn}
 use Rattle.wasp_session.specs.Said.{IsCheckTold, IsLineTold, IsPlanTold, Tells, TellsAll, nothing, plain, plan_count}
 use Rattle.wasp_session.specs.State.{Follows, Keeps, State}
-use Rattle.wasp_session.specs.Steps.{AddsKeys, IfBoth, Simulates}
+use Rattle.wasp_session.specs.Steps.{AddsKeys, GrowsBy, Simulates}
 use Rattle.wasp_session.specs.declared.command.Command.{Command}
 use Rattle.wasp_session.proofs.FollowSteps.{adds_none, count_more, deck_more, deck_same, keeps_more, keys_more}
+use Rattle.wasp_session.proofs.GrowSteps.{grows_same}
 use Rattle.wasp_session.proofs.NoSteps.{plan_no, tells_no}
 use Rattle.wasp_session.proofs.OpenSteps.{checks_more, open_more}
 use Rattle.wasp_session.proofs.PlanKeys.{simulates_none}
@@ -193,11 +194,16 @@ follows_idle ls line s t idle f =
     let due : AreDue t.book t.kept = subst (λ (b : List System). AreDue b t.kept) (sym idle.book) (subst (λ (k : List KeptRow). AreDue s.book k) (sym idle.kept) f.keeps.due) in
     follows_line ls line s t [] idle.behind (idle_adds (body_of s.deck) s.opened line s t idle) due f
 
-idle_simulates : (d : Says) (o : Option Open) (line : Line) (s t : State) (count : ℕ) (tape : Option Tape) (runs : Option (List Run)) → IsIdle line s t → Simulates (DemandsOn d o line) s.book s.kept t.book t.kept count count tape runs runs
-idle_simulates d o line s t count tape runs idle =
-    subst (λ (b : List System). Simulates (DemandsOn d o line) s.book s.kept b t.kept count count tape runs runs) (sym idle.book)
-    (subst (λ (k : List KeptRow). Simulates (DemandsOn d o line) s.book s.kept s.book k count count tape runs runs) (sym idle.kept)
-    (simulates_none (DemandsOn d o line) s.book s.kept count tape runs (idle.demands d o)))
+-- its keys, by an engine that did nothing
+pub idle_simulates : (d : Says) (o : Option Open) (line : Line) (s t : State) (w : Work) → IsIdle line s t → Simulates (DemandsOn d o line) s.book s.kept t.book t.kept w w
+idle_simulates d o line s t w idle =
+    subst (λ (b : List System). Simulates (DemandsOn d o line) s.book s.kept b t.kept w w) (sym idle.book)
+    (subst (λ (k : List KeptRow). Simulates (DemandsOn d o line) s.book s.kept s.book k w w) (sym idle.kept)
+    (simulates_none (DemandsOn d o line) s.book s.kept w (idle.demands d o)))
+
+-- a session that has the same book and rows
+pub rows_grow : (d : Says) (demanded : Run → Type 0) (s t : State) → (t.book ≡ s.book) × (t.kept ≡ s.kept) → GrowsBy d demanded s.book s.kept t.book t.kept
+rows_grow d demanded s t same = grows_same d demanded s.book t.book s.kept t.kept same.0 same.1
 
 -- ---- what is told of a line
 
@@ -226,8 +232,8 @@ skip_quiet ls = refl
 pub other_quiet : (line : Line) → IsOther line → IsQuiet line
 other_quiet line is = ⊎_elim (λ e. subst IsQuiet (sym e) blank_quiet) (λ e. subst IsQuiet (sym e) skip_quiet) is
 
-quiet_told : (ls : List Line) (line : Line) (text : List ℕ) (x nos nos_now : ℕ) → IsQuiet line → nos_now ≡ nos → TellsAll (IsLineTold ls line) text text x x nos nos_now
-quiet_told ls line text x nos nos_now quiet same = record { told = nothing; is = quiet ls; text = sym (append-nil text); chosen = omega arith; nos = omega (arith, same) }
+pub quiet_told : (ls : List Line) (line : Line) (text : List ℕ) (x nos nos_now : ℕ) → IsQuiet line → nos_now ≡ nos → TellsAll (IsLineTold ls line) text text x x nos nos_now
+quiet_told ls line text x nos nos_now quiet same = record { told = nothing; is = quiet ls; text = sym (append-nil text); chosen = refl; nos = omega (arith, same) }
 
 pub plan_told : (ls : List Line) (s : State) (before after : List ℕ) (x y nos : ℕ) → Follows ls s → nos ≡ s.nos → Tells (IsPlanTold (body_of s.deck) (s.plans + 1)) before after x y → TellsAll (IsLineTold ls lines.Plan) before after x y s.nos nos
 plan_told ls s before after x y nos f same t =
@@ -245,7 +251,7 @@ check_told ls s before after x y nos f t =
 pub none_told : (d : Says) (n : ℕ) (o : Option Open) (text : List ℕ) (x nos nos_now : ℕ) → o ≡ None → nos_now ≡ nos → TellsAll (IsCheckTold d n o) text text x x nos nos_now
 none_told d n o text x nos nos_now none same =
     subst (λ (z : Option Open). TellsAll (IsCheckTold d n z) text text x x nos nos_now) (sym none)
-    (record { told = nothing; is = refl; text = sym (append-nil text); chosen = omega arith; nos = omega (arith, same) })
+    (record { told = nothing; is = refl; text = sym (append-nil text); chosen = refl; nos = omega (arith, same) })
 
 pub verdict_told : (d : Says) (n case : ℕ) (o : Option Open) (p : Open) (judged : Judged) (before after : List ℕ) (x y nos more nos_now : ℕ) → o ≡ Some p → case ≡ p.case → IsJudged d p judged
     → after ≡ before ++ verdict_line n case judged → y ≡ x → more ≡ nos_of judged → nos_now ≡ nos + more → TellsAll (IsCheckTold d n o) before after x y nos nos_now
@@ -255,7 +261,7 @@ verdict_told d n case o p judged before after x y nos more nos_now some same_cas
       told = record { text = verdict_line n p.case judged; chosen = 0; nos = nos_of judged };
       is = record { judged = judged; is_of = is; is = refl };
       text = text ∙ ap (λ (c : ℕ). before ++ verdict_line n c judged) same_case;
-      chosen = omega (arith, same_details);
+      chosen = same_details;
       nos = omega (arith, many, total);
     })
 
@@ -264,46 +270,42 @@ end_told ls s before after x nos f same e = record {
   told = plain (keys_line (length s.kept));
   is = record { many = length s.kept; keys = counts_keys ls s (length s.kept) refl f; is = refl };
   text = e;
-  chosen = omega arith;
+  chosen = refl;
   nos = omega (arith, same);
 }
 
 -- the keys of an ENDCHECK where no CHECK is open, and where this one is
-pub none_simulates : (d : Says) (o : Option Open) (book : List System) (kept : List KeptRow) (count : ℕ) (tape : Option Tape) (runs : Option (List Run)) → o ≡ None → Simulates (DemandsAtEnd d o) book kept book kept count count tape runs runs
-none_simulates d o book kept count tape runs none =
-    subst (λ (z : Option Open). Simulates (DemandsAtEnd d z) book kept book kept count count tape runs runs) (sym none)
-    (simulates_none (DemandsAtEnd d None) book kept count tape runs (λ key is. is))
+pub none_simulates : (d : Says) (o : Option Open) (book : List System) (kept : List KeptRow) (w : Work) → o ≡ None → Simulates (DemandsAtEnd d o) book kept book kept w w
+none_simulates d o book kept w none =
+    subst (λ (z : Option Open). Simulates (DemandsAtEnd d z) book kept book kept w w) (sym none)
+    (simulates_none (DemandsAtEnd d None) book kept w (λ key is. is))
 
-pub checked_simulates : (d : Says) (o : Option Open) (p : Open) (book now : List System) (kept kept_now : List KeptRow) (count count_now : ℕ) (tape : Option Tape) (runs runs_now : Option (List Run)) → o ≡ Some p
-    → Simulates (DemandsChecked d p) book kept now kept_now count count_now tape runs runs_now → Simulates (DemandsAtEnd d o) book kept now kept_now count count_now tape runs runs_now
-checked_simulates d o p book now kept kept_now count count_now tape runs runs_now some s =
-    subst (λ (z : Option Open). Simulates (DemandsAtEnd d z) book kept now kept_now count count_now tape runs runs_now) (sym some) s
+pub checked_simulates : (d : Says) (o : Option Open) (p : Open) (book now : List System) (kept kept_now : List KeptRow) (before after : Work) → o ≡ Some p
+    → Simulates (DemandsChecked d p) book kept now kept_now before after → Simulates (DemandsAtEnd d o) book kept now kept_now before after
+checked_simulates d o p book now kept kept_now before after some s =
+    subst (λ (z : Option Open). Simulates (DemandsAtEnd d z) book kept now kept_now before after) (sym some) s
 
--- ---- the first engine
+pub checked_grows : (d : Says) (o : Option Open) (p : Open) (book now : List System) (kept kept_now : List KeptRow) → o ≡ Some p
+    → GrowsBy d (DemandsChecked d p) book kept now kept_now → GrowsBy d (DemandsAtEnd d o) book kept now kept_now
+checked_grows d o p book now kept kept_now some g =
+    subst (λ (z : Option Open). GrowsBy d (DemandsAtEnd d z) book kept now kept_now) (sym some) g
 
--- what is true of a thing and itself is true of both ends where nothing changed
-pub both_same : {X : Type 0} (o : Option X) (Is : X → X → Type 0) → ((x : X) → Is x x) → IfBoth o o Is
-both_same None Is each = tt
-both_same (Some x) Is each = each x
+-- where it is refused or failed in its form
+pub checked_refused : (d : Says) (o : Option Open) (p : Open) (Same : Type 0) → o ≡ Some p → ((IsChecked d p → ⊥) → Same) → (IsCheckedAtEnd d o → ⊥) → Same
+checked_refused d o p Same some h = subst (λ (z : Option Open). (IsCheckedAtEnd d z → ⊥) → Same) (sym some) h
 
-pub both_then : {X : Type 0} (o p : Option X) (One Other : X → X → Type 0) → IfBoth o p One → ((x y : X) → One x y → Other x y) → IfBoth o p Other
-both_then None p One Other is each = tt
-both_then (Some x) None One Other is each = tt
-both_then (Some x) (Some y) One Other is each = each x y is
+-- ---- what a PLAN and an ENDCHECK do, said of the line that was read
 
--- a line that demands none, by an engine that stays as it was
-pub idle_keys : {X : Type 0} (simulated : X → ℕ) (tape : X → Option Tape) (runs : X → Option (List Run)) (first : Option X) (d : Says) (o : Option Open) (line : Line) (s t : State) → IsIdle line s t
-    → IfBoth first first (λ before after. Simulates (DemandsOn d o line) s.book s.kept t.book t.kept (simulated before) (simulated after) (tape before) (runs before) (runs after))
-idle_keys simulated tape runs None d o line s t idle = tt
-idle_keys simulated tape runs (Some x) d o line s t idle = idle_simulates d o line s t (simulated x) (tape x) (runs x) idle
+pub line_simulates : (d : Says) (o : Option Open) (line said : Line) (book now : List System) (kept kept_now : List KeptRow) (before after : Work) → line ≡ said
+    → Simulates (DemandsOn d o said) book kept now kept_now before after → Simulates (DemandsOn d o line) book kept now kept_now before after
+line_simulates d o line said book now kept kept_now before after e s = subst (λ (l : Line). Simulates (DemandsOn d o l) book kept now kept_now before after) (sym e) s
 
--- a line that tells nothing
-pub quiet_tells : {X : Type 0} (detailed : X → ℕ) (o : Option X) (ls : List Line) (line : Line) (text : List ℕ) (nos nos_now : ℕ) → IsQuiet line → nos_now ≡ nos → IfBoth o o (λ before after. TellsAll (IsLineTold ls line) text text (detailed before) (detailed after) nos nos_now)
-quiet_tells detailed None ls line text nos nos_now quiet same = tt
-quiet_tells detailed (Some x) ls line text nos nos_now quiet same = quiet_told ls line text (detailed x) nos nos_now quiet same
+pub line_grows : (d : Says) (o : Option Open) (line said : Line) (book now : List System) (kept kept_now : List KeptRow) → line ≡ said
+    → GrowsBy d (DemandsOn d o said) book kept now kept_now → GrowsBy d (DemandsOn d o line) book kept now kept_now
+line_grows d o line said book now kept kept_now e g = subst (λ (l : Line). GrowsBy d (DemandsOn d o l) book kept now kept_now) (sym e) g
 
--- there is a first engine before and after
-pub both_are : {X : Type 0} (xs ys : List X) (Is : X → X → Type 0) (P : Type 0) → 1 ≤ length xs → length ys ≡ length xs → IfBoth (slice_get xs 0) (slice_get ys 0) Is → ((x y : X) → Is x y → P) → P
-both_are [] ys Is P some same both each = absurd (omega (arith, some))
-both_are (x ∷ xs) [] Is P some same both each = absurd (omega (arith, same))
-both_are (x ∷ xs) (y ∷ ys) Is P some same both each = each x y both
+pub line_refused : (d : Says) (o : Option Open) (line said : Line) (Same : Type 0) → line ≡ said → ((IsTakenOn d o said → ⊥) → Same) → (IsTakenOn d o line → ⊥) → Same
+line_refused d o line said Same e h = subst (λ (l : Line). (IsTakenOn d o l → ⊥) → Same) (sym e) h
+
+pub line_told : (ls : List Line) (line said : Line) (before after : List ℕ) (x y nos nos_now : ℕ) → line ≡ said → TellsAll (IsLineTold ls said) before after x y nos nos_now → TellsAll (IsLineTold ls line) before after x y nos nos_now
+line_told ls line said before after x y nos nos_now e t = subst (λ (l : Line). TellsAll (IsLineTold ls l) before after x y nos nos_now) (sym e) t

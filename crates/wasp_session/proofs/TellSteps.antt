@@ -2,6 +2,8 @@
 use Rattle.std.proofs.Common.{◌≡◌, ◌∙◌, ap, sym, refl, ℕ, List, [], ◌∷◌, ◌++◌, append_assoc, arith}
 use Rattle.std.proofs.lemmas.List.{append-nil}
 use Rattle.deck_lines.specs.declared.line.Line.{Line}
+use Rattle.sim_engine.specs.Engine.{raised}
+use Rattle.sim_engine.proofs.CountSteps.{raised_then}
 use Rattle.wasp_session.specs.Case.{Told}
 use Rattle.wasp_session.specs.Said.{AreJoined, AreToldAfter, IsLineTold, TellingGoesOn, Tells, joined, nothing, plain}
 
@@ -23,16 +25,16 @@ tells_then One Other a b c x y z one other = record {
   told = joined one.told other.told;
   is = record { one = one.told; other = other.told; is_one = one.is; is_other = other.is; is = refl };
   text = other.text ∙ ap (λ (t : List ℕ). t ++ other.told.text) one.text ∙ append_assoc a one.told.text other.told.text;
-  chosen = omega (arith, one.chosen, other.chosen);
+  chosen = other.chosen ∙ ap (raised other.told.chosen) one.chosen ∙ raised_then one.told.chosen other.told.chosen x;
 }
 
 -- nothing is told
 pub tells_nothing : (a : List ℕ) (x : ℕ) → Tells (λ t. t ≡ nothing) a a x x
-tells_nothing a x = record { told = nothing; is = refl; text = sym (append-nil a); chosen = omega arith }
+tells_nothing a x = record { told = nothing; is = refl; text = sym (append-nil a); chosen = refl }
 
 -- a text without a CHOSEN line is told
 pub tells_plain : (a b text : List ℕ) (x : ℕ) → b ≡ a ++ text → Tells (λ t. t ≡ plain text) a b x x
-tells_plain a b text x e = record { told = plain text; is = refl; text = e; chosen = omega arith }
+tells_plain a b text x e = record { told = plain text; is = refl; text = e; chosen = refl }
 
 goes_on : (before ls : List Line) (line : Line) (told more : Told) → AreToldAfter before ls told → IsLineTold (before ++ ls) line more → AreToldAfter before (ls ++ line ∷ []) (joined told more)
 goes_on before [] line told more t m = record {

@@ -74,6 +74,12 @@ pub record IsInForm (d : Says) (o : Open) : Type 0 where
 abbrev pub AreWithin : Says → ℕ → Type 0
 AreWithin d c = (t : ℕ) → 1 ≤ t → t ≤ years d → IsWithin d c t
 
+-- it is neither refused nor failed in its form
+pub record IsChecked (d : Says) (o : Open) : Type 0 where
+  pub faultless : HasNoFault d
+  pub in_form : IsInForm d o
+  pub within : AreWithin d o.case
+
 -- the certificate that the lines say is judged against the table of the case
 pub record IsVerdictOf (d : Says) (o : Open) (verdict : Verdict) : Type 0 where
   pub table : Table

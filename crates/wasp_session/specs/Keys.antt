@@ -3,14 +3,13 @@
 -- stands in the lines and it is neither refused nor failed in its form. Each is simulated once in a run, whatever
 -- was edited between two lines, since the key has all the data of its year. This program's own.
 use Rattle.std.specs.Prelude.{◌≡◌, ◌≢◌, ℕ, ◌⊎◌, ◌↔◌, List, [], ◌∷◌, ◌++◌, Contains, AllPairs, Option, None, Some, length}
-use Rattle.deck_check.specs.DeckFault.{HasNoFault}
 use Rattle.checked_deck.specs.Systems.{system}
 use Rattle.deck_check.specs.Readings.{Says}
 use Rattle.deck_lines.specs.Deck.{deck_at}
 use Rattle.deck_lines.specs.declared.line.Line.{Line}
 use Rattle.deck_lines.specs.declared.line.Line.TheVariants as lines
 use Rattle.sim_engine.specs.Engine.{Run}
-use Rattle.wasp_session.specs.Checks.{AreWithin, IsInForm, Open, open_at}
+use Rattle.wasp_session.specs.Checks.{IsChecked, Open, open_at}
 use Rattle.wasp_session.specs.Listings.{IsListedOf, IsOf, IsTaken}
 
 -- a key of a deck: the system of a year with a configuration that is listed for a case and this year
@@ -33,11 +32,8 @@ pub record IsCaseKeyOf (d : Says) (c : ℕ) (key : Run) : Type 0 where
   pub listed : IsListedOf d c year key.1
 
 -- a CHECK demands it that is neither refused nor failed in its form
-pub record DemandsChecked (d : Says) (o : Open) (key : Run) : Type 0 where
-  pub faultless : HasNoFault d
-  pub in_form : IsInForm d o
-  pub within : AreWithin d o.case
-  pub is_key : IsCaseKeyOf d o.case key
+abbrev pub DemandsChecked : Says → Open → Run → Type 0
+DemandsChecked d o key = IsChecked d o × IsCaseKeyOf d o.case key
 
 -- the ENDCHECK of an open CHECK demands it
 abbrev pub DemandsAtEnd : Says → Option Open → Run → Type 0
@@ -49,6 +45,17 @@ abbrev pub DemandsOn : Says → Option Open → Line → Run → Type 0
 DemandsOn d o lines.Plan key = Demands d key
 DemandsOn d o lines.EndCheck key = DemandsAtEnd d o key
 DemandsOn d o _ key = ⊥
+
+-- there is an open CHECK, which is neither
+abbrev pub IsCheckedAtEnd : Says → Option Open → Type 0
+IsCheckedAtEnd d None = ⊥
+IsCheckedAtEnd d (Some o) = IsChecked d o
+
+-- a line is a PLAN that is not refused, or the ENDCHECK of such a CHECK
+abbrev pub IsTakenOn : Says → Option Open → Line → Type 0
+IsTakenOn d o lines.Plan = IsTaken d
+IsTakenOn d o lines.EndCheck = IsCheckedAtEnd d o
+IsTakenOn d o _ = ⊥
 
 -- lines behind others demand it, and the lines of a script
 abbrev pub IsDemandedAfter : List Line → List Line → Run → Type 0

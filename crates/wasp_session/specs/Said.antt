@@ -12,6 +12,7 @@ use Rattle.report_text.specs.Verdicts.{verdict_line}
 use Rattle.report_text.specs.declared.data.CaseReport.{CaseReport}
 use Rattle.report_text.specs.declared.refusals.Refusal.{Refusal}
 use Rattle.report_text.specs.declared.verdicts.Judged.{Judged}
+use Rattle.sim_engine.specs.Engine.{raised}
 use Rattle.wasp_session.specs.Accepted.{IsAccepted}
 use Rattle.wasp_session.specs.Case.{IsReportOf, Told}
 use Rattle.wasp_session.specs.Checks.{IsJudged, Open, check_count, nos_of, open_at}
@@ -116,17 +117,17 @@ AreTold ls told = AreToldAfter [] ls told
 abbrev pub TellingGoesOn : Type 0
 TellingGoesOn = (ls : List Line) (line : Line) (told more : Told) → AreTold ls told → IsLineTold ls line more → AreTold (ls ++ line ∷ []) (joined told more)
 
--- ---- what a call tells: a text gains it, and a count of details gains its CHOSEN lines
+-- ---- what a call tells: a text gains it, and a count of details rises by its CHOSEN lines
 pub record Tells (Is : Told → Type 0) (before after : List ℕ) (details now : ℕ) : Type 0 where
   pub told : Told
   pub is : Is told
   pub text : after ≡ before ++ told.text
-  pub chosen : now ≡ details + told.chosen
+  pub chosen : now ≡ raised told.chosen details
 
 -- the same, and a count of NOs gains its
 pub record TellsAll (Is : Told → Type 0) (before after : List ℕ) (details now count count_now : ℕ) : Type 0 where
   pub told : Told
   pub is : Is told
   pub text : after ≡ before ++ told.text
-  pub chosen : now ≡ details + told.chosen
+  pub chosen : now ≡ raised told.chosen details
   pub nos : count_now ≡ count + told.nos

@@ -1,6 +1,6 @@
 -- What the steps of a PLAN hand on: the systems of the years, the listed configurations of cases and years, the
 -- systems' numbers in the book, and the demands. This program's own.
-use Rattle.std.specs.Prelude.{◌≡◌, ◌≢◌, ℕ, ◌+◌, ◌-◌, ◌^◌, ◌<◌, ◌≤◌, ◌⊎◌, AllPairs, Contains, List, [], ◌++◌, length, map, Option, None, Some, slice_get, slice_index, All}
+use Rattle.std.specs.Prelude.{◌≡◌, ◌≢◌, ℕ, ◌+◌, ◌<◌, ◌≤◌, ◌⊎◌, AllPairs, Contains, List, [], ◌++◌, length, map, Option, None, Some, slice_get, slice_index, All}
 use Rattle.std.specs.List.{flat_map, zip}
 use Rattle.deck_check.specs.Readings as says
 use Rattle.checked_deck.specs.Systems.{system}
@@ -10,9 +10,9 @@ use Rattle.plant_data.specs.declared.row.Limit.{Limit}
 use Rattle.sim_sweep.specs.declared.demand.Demand.{Demand}
 use Rattle.cost_terms.specs.declared.entries.Scored.{Scored}
 use Rattle.plan_program.specs.Plans.{entry_at}
-use Rattle.sim_engine.specs.Engine.{Room, Run, Tape}
+use Rattle.sim_engine.specs.Engine.{Room, Run, Work, raised}
 use Rattle.board_core.specs.declared.row.KeptRow.{KeptRow}
-use Rattle.sim_sweep.specs.Told.{CanTell, GainsOnly}
+use Rattle.sim_sweep.specs.Filling.{Gains}
 use Rattle.wasp_session.specs.State.{IsKeptKey}
 use Rattle.wasp_session.specs.Listings.{IsFairListing}
 use Rattle.year_system.specs.Code.{code_of}
@@ -47,11 +47,11 @@ pub record AreCaseLists (d : Says) (lists : List (List (List (List ℕ)))) : Typ
   pub many : length lists ≡ cases d
   pub each : EachAt (λ k years. AreYearLists d (k + 1) years) lists
 
--- the book has grown, by no more than so many systems
-pub record HasGrown (before now : List System) (most : ℕ) : Type 0 where
+-- the book has grown by some of these systems
+pub record HasGrown (before now systems : List System) : Type 0 where
   pub more : List System
   pub is : now ≡ before ++ more
-  pub few : length more ≤ most
+  pub among : All (Contains systems) more
 
 -- the numbers of systems in the book
 pub record AreNumbers (book systems : List System) (ids : List ℕ) : Type 0 where
@@ -110,7 +110,22 @@ case_demands book ids lists = map (year_demands book) (zip ids lists)
 abbrev pub all_demands : List System → List ℕ → List (List (List (List ℕ))) → List Demand
 all_demands book ids cases = flat_map (λ lists. flat_map (year_demands book) (zip ids lists)) cases
 
--- ---- what a PLAN does to the rows that are kept
+-- ---- what a line does to the book and to the rows that are kept
+
+-- a system is that of a year of the deck
+pub record IsOfYear (d : Says) (s : System) : Type 0 where
+  pub year : ℕ
+  pub low : 1 ≤ year
+  pub high : year ≤ years d
+  pub is : s ≡ system d year
+
+-- the book has grown by systems of the deck's years; the rows that were kept are kept, and others are of demanded keys
+pub record GrowsBy (d : Says) (demanded : Run → Type 0) (book : List System) (kept : List KeptRow) (book_now : List System) (kept_now : List KeptRow) : Type 0 where
+  pub more : List System
+  pub is : book_now ≡ book ++ more
+  pub of_years : All (IsOfYear d) more
+  pub stays : (key : Run) → IsKeptKey book kept key → IsKeptKey book_now kept_now key
+  pub only : (key : Run) → IsKeptKey book_now kept_now key → IsKeptKey book kept key ⊎ demanded key
 
 -- rows of the demanded keys are kept too: these ones are new, each once
 pub record AddsKeys (demanded : Run → Type 0) (book : List System) (kept : List KeptRow) (book_now : List System) (kept_now : List KeptRow) (new : List Run) : Type 0 where
@@ -123,21 +138,14 @@ pub record AddsKeys (demanded : Run → Type 0) (book : List System) (kept : Lis
   pub only : (key : Run) → IsKeptKey book_now kept_now key → IsKeptKey book kept key ⊎ Contains new key
   pub many : length kept_now ≡ length kept + length new
 
--- each new key is simulated once, and told where it can be
-pub record Simulates (demanded : Run → Type 0) (book : List System) (kept : List KeptRow) (book_now : List System) (kept_now : List KeptRow) (count count_now : ℕ) (tape : Option Tape) (runs runs_now : Option (List Run)) : Type 0 where
+-- an engine simulates each new key once, and tells it where it can
+pub record Simulates (demanded : Run → Type 0) (book : List System) (kept : List KeptRow) (book_now : List System) (kept_now : List KeptRow) (before now : Work) : Type 0 where
   pub new : List Run
   pub adds : AddsKeys demanded book kept book_now kept_now new
-  pub counts : count_now ≡ count + length new
-  pub told : (t : CanTell tape runs new) → runs_now ≡ Some (t.before ++ new)
-  pub only_told : GainsOnly runs runs_now new
+  pub simulated : now.simulated ≡ raised (length new) before.simulated
+  pub tape : now.tape ≡ before.tape
+  pub gains : Gains before.tape before.runs now.runs new
 
--- the counts of an engine can rise by what a PLAN takes at most: 120,000 keys and 240 years
-pub record HasCountsLeft (simulated detailed : ℕ) : Type 0 where
-  pub keys : simulated + 120000 < 2 ^ 64 - 1
-  pub years : detailed + 240 < 2 ^ 64 - 1
-
--- what is true of two things, where both are
-abbrev pub IfBoth : {X : Type 0} → Option X → Option X → (X → X → Type 0) → Type 0
-IfBoth {X} None other Is = Unit {0}
-IfBoth {X} (Some one) None Is = Unit {0}
-IfBoth {X} (Some one) (Some other) Is = Is one other
+-- it does nothing but to detail years
+abbrev pub OnlyDetails : Work → Work → Type 0
+OnlyDetails before now = now ≡ record before { detailed = now.detailed }

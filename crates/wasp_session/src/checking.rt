@@ -1,5 +1,5 @@
 //! What an ENDCHECK line does.
-ghost use Rattle.std.specs.Prelude.{◌≡◌, ◌+◌, ◌-◌, ◌^◌, ◌<◌, ◌≤◌, All, IfOk, OnOk, length};
+ghost use Rattle.std.specs.Prelude.{◌≡◌, ◌+◌, ◌≤◌, All, IfOk, OnOk, length};
 ghost use Rattle.cost_terms.specs.Table.{Table};
 ghost use Rattle.deck_check.specs.Readings as says;
 ghost use Rattle.deck_lines.specs.Deck.{body_of};
@@ -8,17 +8,17 @@ ghost use Rattle.plan_certificate.specs.Reading.{IsSaidBy};
 ghost use Rattle.sim_sweep.specs.Demands.{IsFilled};
 ghost use Rattle.sim_sweep.specs.Kept.{AreDue};
 ghost use Rattle.wasp_session.specs.Case.{IsTableOf};
-ghost use Rattle.wasp_session.specs.Checks.{IsJudged};
+ghost use Rattle.wasp_session.specs.Checks.{IsChecked, IsJudged};
 ghost use Rattle.wasp_session.specs.Keys.{DemandsChecked, IsCaseKeyOf};
 ghost use Rattle.wasp_session.specs.State.{AreOnes};
 ghost use Rattle.wasp_session.specs.Steps as spec;
-ghost use Rattle.wasp_session.specs.Steps.{AreSystems, AreYearLists, HasGrown, HasYearRoom, HasYears, Simulates};
+ghost use Rattle.wasp_session.specs.Steps.{AreSystems, AreYearLists, GrowsBy, HasYearRoom, HasYears, Simulates};
 
 use crate::demands::push_years;
 use crate::interning::{intern_all, room_for};
 use crate::listing::{ListError, list_case, systems_of};
 use crate::opened::OpenCheck;
-use crate::settling::settle_case;
+use crate::settling::tabulate_case;
 use checked_deck::{CheckError, TypedDeck, check};
 use deck_check::faults_are_met;
 use deck_lines::Deck;
@@ -34,7 +34,7 @@ use tunnel_configs::listings_are_one;
 use wasp_fixed::OutOfMemory;
 use year_system::{Book, YearSystem};
 
-/// Settles a case, and judges a certificate against its table.
+/// Judges a certificate against the table of its case. Nothing is planned.
 fn judge_settled(
     alloc: Global,
     typed: &TypedDeck,
@@ -55,8 +55,8 @@ fn judge_settled(
     requires width { certificate.now.width ≡ length (says.greatest (body_of typed.now)) }
     ensures { IfOk result (λ verdict. (table : Table) × IsTableOf (body_of typed.now) case table × IsVerdict table certificate.now verdict) }
 {
-    let done = settle_case(alloc, typed, book, ids, kept, case, lists)?;
-    Ok(judge(done.table(), certificate))
+    let table = tabulate_case(alloc, typed, book, ids, kept, case, lists)?;
+    Ok(judge(&table, certificate))
 }
 
 /// Keeps the row of each key that a case demands. The ones that are not kept are simulated, each once.
@@ -77,13 +77,13 @@ fn fill_case<E: SimEngine>(
     requires numbers { HasYears (body_of typed.now) book.now ids.now }
     requires lists { AreYearLists (body_of typed.now) case lists.now }
     requires room { HasYearRoom (body_of typed.now) (E.room engine.old) }
-    requires count { E.simulated engine.old + 120000 < 2 ^ 64 - 1 }
     ensures filled { OnOk result (All (All (IsFilled book.now kept.new)) (spec.case_demands book.now ids.now lists.now)) }
-    ensures keys { OnOk result (Simulates (IsCaseKeyOf (body_of typed.now) case) book.now kept.old book.now kept.new (E.simulated engine.old) (E.simulated engine.new) (E.tape engine.old) (E.runs engine.old) (E.runs engine.new)) }
+    ensures keys { OnOk result (Simulates (IsCaseKeyOf (body_of typed.now) case) book.now kept.old book.now kept.new (E.work engine.old) (E.work engine.new)) }
+    ensures grows { GrowsBy (body_of typed.now) (IsCaseKeyOf (body_of typed.now) case) book.now kept.old book.now kept.new }
     ensures due { AreDue book.now kept.new }
     ensures few { length kept.new ≤ length kept.old + 120000 }
-    ensures detailed { E.detailed engine.new ≡ E.detailed engine.old }
-    ensures tape { E.tape engine.new ≡ E.tape engine.old }
+    ensures detailed { (E.work engine.new).detailed ≡ (E.work engine.old).detailed }
+    ensures tape { (E.work engine.new).tape ≡ (E.work engine.old).tape }
     ensures cells_stay { (E.room engine.old).cells ≤ (E.room engine.new).cells }
     ensures units_stay { (E.room engine.old).units ≤ (E.room engine.new).units }
 {
@@ -117,24 +117,25 @@ fn judge_case<E: SimEngine>(
     requires years { certificate.now.years ≡ says.years (body_of typed.now) }
     requires width { certificate.now.width ≡ length (says.greatest (body_of typed.now)) }
     requires systems_left { length book.old + 30 ≤ 2048 }
-    requires simulated_left { E.simulated engine.old + 120000 < 2 ^ 64 - 1 }
     ensures judged { IfOk result (λ verdict. (table : Table) × IsTableOf (body_of typed.now) case table × IsVerdict table certificate.now verdict) }
-    ensures keys { OnOk result (Simulates (IsCaseKeyOf (body_of typed.now) case) book.old kept.old book.new kept.new (E.simulated engine.old) (E.simulated engine.new) (E.tape engine.old) (E.runs engine.old) (E.runs engine.new)) }
+    ensures keys { OnOk result (Simulates (IsCaseKeyOf (body_of typed.now) case) book.old kept.old book.new kept.new (E.work engine.old) (E.work engine.new)) }
     ensures due { AreDue book.new kept.new }
     ensures ones { AreOnes book.new }
-    ensures grown { HasGrown book.old book.new 30 }
+    ensures grows { GrowsBy (body_of typed.now) (IsCaseKeyOf (body_of typed.now) case) book.old kept.old book.new kept.new }
+    ensures systems { length book.new ≤ length book.old + 30 }
     ensures few { length kept.new ≤ length kept.old + 120000 }
-    ensures detailed { E.detailed engine.new ≡ E.detailed engine.old }
-    ensures tape { E.tape engine.new ≡ E.tape engine.old }
+    ensures detailed { (E.work engine.new).detailed ≡ (E.work engine.old).detailed }
+    ensures tape { (E.work engine.new).tape ≡ (E.work engine.old).tape }
 {
     // Its reading tells the proof that there are at most 30 years.
     let _years = typed.years();
     due_rows_stand();
     let (cells, units) = room_for(&systems);
     let mut ids = Vec::new(alloc);
-    intern_all(book, systems, &mut ids)?;
+    let interned = intern_all(book, systems, &mut ids);
     // Its reading tells the proof that each system is one.
     let _systems = book.len();
+    interned?;
     engine.ready(cells, units)?;
     fill_case(alloc, typed, book, &ids, case, lists, kept, engine)?;
     judge_settled(alloc, typed, book, &ids, kept, case, lists, certificate)
@@ -155,15 +156,16 @@ fn judge_read<E: SimEngine>(
     requires due { AreDue book.old kept.old }
     requires ones { AreOnes book.old }
     requires systems_left { length book.old + 30 ≤ 2048 }
-    requires simulated_left { E.simulated engine.old + 120000 < 2 ^ 64 - 1 }
     ensures judged { IfOk result (λ judged. IsJudged (body_of typed.now) opened.now judged) }
-    ensures keys { OnOk result (Simulates (DemandsChecked (body_of typed.now) opened.now) book.old kept.old book.new kept.new (E.simulated engine.old) (E.simulated engine.new) (E.tape engine.old) (E.runs engine.old) (E.runs engine.new)) }
+    ensures keys { OnOk result (Simulates (DemandsChecked (body_of typed.now) opened.now) book.old kept.old book.new kept.new (E.work engine.old) (E.work engine.new)) }
     ensures due { AreDue book.new kept.new }
     ensures ones { AreOnes book.new }
-    ensures grown { HasGrown book.old book.new 30 }
+    ensures grows { GrowsBy (body_of typed.now) (DemandsChecked (body_of typed.now) opened.now) book.old kept.old book.new kept.new }
+    ensures refused { (IsChecked (body_of typed.now) opened.now → ⊥) → (book.new ≡ book.old) × (kept.new ≡ kept.old) }
+    ensures systems { length book.new ≤ length book.old + 30 }
     ensures few { length kept.new ≤ length kept.old + 120000 }
-    ensures detailed { E.detailed engine.new ≡ E.detailed engine.old }
-    ensures tape { E.tape engine.new ≡ E.tape engine.old }
+    ensures detailed { (E.work engine.new).detailed ≡ (E.work engine.old).detailed }
+    ensures tape { (E.work engine.new).tape ≡ (E.work engine.old).tape }
 {
     // Its reading tells the proof that the deck meets no row of the fault table.
     let _years = typed.years();
@@ -203,15 +205,16 @@ fn judge_typed<E: SimEngine>(
     requires due { AreDue book.old kept.old }
     requires ones { AreOnes book.old }
     requires systems_left { length book.old + 30 ≤ 2048 }
-    requires simulated_left { E.simulated engine.old + 120000 < 2 ^ 64 - 1 }
     ensures judged { IfOk result (λ judged. IsJudged (body_of typed.now) opened.now judged) }
-    ensures keys { OnOk result (Simulates (DemandsChecked (body_of typed.now) opened.now) book.old kept.old book.new kept.new (E.simulated engine.old) (E.simulated engine.new) (E.tape engine.old) (E.runs engine.old) (E.runs engine.new)) }
+    ensures keys { OnOk result (Simulates (DemandsChecked (body_of typed.now) opened.now) book.old kept.old book.new kept.new (E.work engine.old) (E.work engine.new)) }
     ensures due { AreDue book.new kept.new }
     ensures ones { AreOnes book.new }
-    ensures grown { HasGrown book.old book.new 30 }
+    ensures grows { GrowsBy (body_of typed.now) (DemandsChecked (body_of typed.now) opened.now) book.old kept.old book.new kept.new }
+    ensures refused { (IsChecked (body_of typed.now) opened.now → ⊥) → (book.new ≡ book.old) × (kept.new ≡ kept.old) }
+    ensures systems { length book.new ≤ length book.old + 30 }
     ensures few { length kept.new ≤ length kept.old + 120000 }
-    ensures detailed { E.detailed engine.new ≡ E.detailed engine.old }
-    ensures tape { E.tape engine.new ≡ E.tape engine.old }
+    ensures detailed { (E.work engine.new).detailed ≡ (E.work engine.old).detailed }
+    ensures tape { (E.work engine.new).tape ≡ (E.work engine.old).tape }
 {
     if typed.cases() < opened.case() {
         return Ok(Judged::Form(0));
@@ -236,15 +239,16 @@ pub(crate) fn judge_deck<E: SimEngine>(
     requires due { AreDue book.old kept.old }
     requires ones { AreOnes book.old }
     requires systems_left { length book.old + 30 ≤ 2048 }
-    requires simulated_left { E.simulated engine.old + 120000 < 2 ^ 64 - 1 }
     ensures judged { IfOk result (λ judged. IsJudged (body_of deck.now) opened.now judged) }
-    ensures keys { OnOk result (Simulates (DemandsChecked (body_of deck.now) opened.now) book.old kept.old book.new kept.new (E.simulated engine.old) (E.simulated engine.new) (E.tape engine.old) (E.runs engine.old) (E.runs engine.new)) }
+    ensures keys { OnOk result (Simulates (DemandsChecked (body_of deck.now) opened.now) book.old kept.old book.new kept.new (E.work engine.old) (E.work engine.new)) }
     ensures due { AreDue book.new kept.new }
     ensures ones { AreOnes book.new }
-    ensures grown { HasGrown book.old book.new 30 }
+    ensures grows { GrowsBy (body_of deck.now) (DemandsChecked (body_of deck.now) opened.now) book.old kept.old book.new kept.new }
+    ensures refused { (IsChecked (body_of deck.now) opened.now → ⊥) → (book.new ≡ book.old) × (kept.new ≡ kept.old) }
+    ensures systems { length book.new ≤ length book.old + 30 }
     ensures few { length kept.new ≤ length kept.old + 120000 }
-    ensures detailed { E.detailed engine.new ≡ E.detailed engine.old }
-    ensures tape { E.tape engine.new ≡ E.tape engine.old }
+    ensures detailed { (E.work engine.new).detailed ≡ (E.work engine.old).detailed }
+    ensures tape { (E.work engine.new).tape ≡ (E.work engine.old).tape }
 {
     faults_are_met();
     match check(deck) {

@@ -1,12 +1,14 @@
 //! What the plants, candidates and groups of a planned year generate.
-ghost use Rattle.std.specs.Prelude.{◌≡◌, ℕ, ◌+◌, ◌-◌, ◌^◌, ◌<◌, ◌≤◌, ◌++◌, [], ◌∷◌, All, List, length, IfOk, OnOk, slice_index};
+ghost use Rattle.std.specs.Prelude.{◌≡◌, ℕ, ◌+◌, ◌-◌, ◌<◌, ◌≤◌, ◌++◌, [], ◌∷◌, All, List, length, IfOk, OnOk, slice_index};
 ghost use Rattle.std.specs.List.{filter_map, range_with_len};
 ghost use Rattle.checked_deck.specs.Systems as systems;
 ghost use Rattle.deck_check.specs.Readings as says;
 ghost use Rattle.deck_lines.specs.Deck.{body_of};
 ghost use Rattle.report_text.specs.ReadBack.{IsPrintableGeneration};
+ghost use Rattle.sim_engine.specs.Engine.{counted};
 ghost use Rattle.sim_engine.specs.Generation.{generations};
 ghost use Rattle.wasp_session.specs.Case.{generation_at, generation_of, generations_of, generator_at, standing_at};
+ghost use Rattle.wasp_session.specs.Steps.{OnlyDetails};
 ghost use Rattle.year_system.specs.System.{Fits, cells, unit_limit};
 
 use checked_deck::{PlantId, TypedDeck};
@@ -102,15 +104,12 @@ pub(crate) fn year_generations<E: SimEngine>(
     requires fits { Fits system.now config.now }
     requires cells { cells system.now ≤ (E.room engine.old).cells }
     requires units { unit_limit system.now ≤ (E.room engine.old).units }
-    requires count { E.detailed engine.old < 2 ^ 64 - 1 }
     ensures value { IfOk result (λ gs. gs ≡ generations_of (body_of typed.now) year config.now) }
     ensures printable { IfOk result (λ gs. All IsPrintableGeneration gs) }
-    ensures detailed { OnOk result (E.detailed engine.new ≡ E.detailed engine.old + 1) }
+    ensures detailed { OnOk result ((E.work engine.new).detailed ≡ counted (E.work engine.old).detailed) }
     ensures cells_stay { (E.room engine.old).cells ≤ (E.room engine.new).cells }
     ensures units_stay { (E.room engine.old).units ≤ (E.room engine.new).units }
-    ensures simulated { E.simulated engine.new ≡ E.simulated engine.old }
-    ensures runs { E.runs engine.new ≡ E.runs engine.old }
-    ensures tape { E.tape engine.new ≡ E.tape engine.old }
+    ensures work { OnlyDetails (E.work engine.old) (E.work engine.new) }
 {
     let count = system.existing().len() + system.thermal().len() + system.groups().len();
     let mut energies = vec![in alloc; 0u64; count]?;

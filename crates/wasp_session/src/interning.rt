@@ -1,16 +1,15 @@
 //! The systems of the years in the book.
-ghost use Rattle.std.specs.Prelude.{◌≡◌, ◌+◌, ◌≤◌, ◌⊎◌, [], length, All, OnOk};
+ghost use Rattle.std.specs.Prelude.{◌≡◌, ◌+◌, ◌≤◌, [], fold, length, map, max, All, OnOk};
 ghost use Rattle.wasp_session.specs.State.{AreOnes};
 ghost use Rattle.wasp_session.specs.Steps.{AreNumbers, HasGrown, HasRoom};
+ghost use Rattle.year_system.specs.System.{cells, unit_limit};
 
 use wasp_fixed::OutOfMemory;
 use year_system::{Book, YearSystem};
 
 /// The larger of two numbers.
 fn larger(one: usize, other: usize) -> usize
-    ensures one { one ≤ result }
-    ensures other { other ≤ result }
-    ensures either { (result ≡ one) ⊎ (result ≡ other) }
+    ensures { result ≡ max one other }
 {
     if one < other { other } else { one }
 }
@@ -18,6 +17,7 @@ fn larger(one: usize, other: usize) -> usize
 /// The cells and the thermal units that the largest of the systems take.
 pub(crate) fn room_for(systems: &[YearSystem]) -> (usize, usize)
     ensures room { All (HasRoom result.0 result.1) systems.now }
+    ensures least { (result.0 ≡ fold max 0 (map cells systems.now)) × (result.1 ≡ fold max 0 (map unit_limit systems.now)) }
     ensures cells { result.0 ≤ 65536 }
     ensures units { result.1 ≤ 128 }
 {
@@ -40,7 +40,8 @@ pub(crate) fn intern_all(
     requires empty { ids.old.items ≡ [] }
     requires ones { AreOnes book.old }
     ensures ones { AreOnes book.new }
-    ensures grown { HasGrown book.old book.new (length systems.items) }
+    ensures grown { HasGrown book.old book.new systems.items }
+    ensures few { length book.new ≤ length book.old + length systems.items }
     ensures ids { OnOk result (AreNumbers book.new systems.items ids.new.items) }
 {
     let mut systems = systems;

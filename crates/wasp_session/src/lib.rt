@@ -24,8 +24,6 @@ mod planned;
 mod report;
 mod session;
 mod settling;
-#[cfg(test)]
-mod tests;
 
 pub use command::{Command, Step};
 pub use laws::{

@@ -1,5 +1,5 @@
 //! What a PLAN line does.
-ghost use Rattle.std.specs.Prelude.{◌≡◌, ◌+◌, ◌-◌, ◌*◌, ◌^◌, ◌<◌, ◌≤◌, All, Err, OnOk, length};
+ghost use Rattle.std.specs.Prelude.{◌≡◌, ◌+◌, ◌≤◌, All, Err, OnOk, length};
 ghost use Rattle.deck_check.specs.Readings as says;
 ghost use Rattle.deck_lines.specs.Deck.{body_of};
 ghost use Rattle.sim_sweep.specs.Demands.{IsFilled};
@@ -9,7 +9,7 @@ ghost use Rattle.wasp_session.specs.Listings.{IsTaken};
 ghost use Rattle.wasp_session.specs.Said.{AreCasesTold, IsCaseTold, IsDeckTold, IsPlanTold, Tells};
 ghost use Rattle.wasp_session.specs.State.{AreOnes};
 ghost use Rattle.wasp_session.specs.Steps as spec;
-ghost use Rattle.wasp_session.specs.Steps.{AreCaseLists, AreSystems, AreYearLists, HasGrown, HasYearRoom, HasYears, Simulates};
+ghost use Rattle.wasp_session.specs.Steps.{AreCaseLists, AreSystems, AreYearLists, GrowsBy, HasYearRoom, HasYears, OnlyDetails, Simulates};
 
 use crate::demands::all_demands;
 use crate::interning::{intern_all, room_for};
@@ -48,14 +48,10 @@ fn tell_case<E: SimEngine>(
     requires due { AreDue book.now kept.now }
     requires filled { All (All (IsFilled book.now kept.now)) (spec.case_demands book.now ids.now lists.now) }
     requires room { HasYearRoom (body_of typed.now) (E.room engine.old) }
-    requires count { E.detailed engine.old + 30 < 2 ^ 64 - 1 }
-    ensures told { OnOk result (Tells (IsCaseTold (body_of typed.now) case) text.old.items text.new.items (E.detailed engine.old) (E.detailed engine.new)) }
-    ensures few { OnOk result (E.detailed engine.new ≤ E.detailed engine.old + 30) }
+    ensures told { OnOk result (Tells (IsCaseTold (body_of typed.now) case) text.old.items text.new.items (E.work engine.old).detailed (E.work engine.new).detailed) }
     ensures cells_stay { (E.room engine.old).cells ≤ (E.room engine.new).cells }
     ensures units_stay { (E.room engine.old).units ≤ (E.room engine.new).units }
-    ensures simulated { E.simulated engine.new ≡ E.simulated engine.old }
-    ensures runs { E.runs engine.new ≡ E.runs engine.old }
-    ensures tape { E.tape engine.new ≡ E.tape engine.old }
+    ensures work { OnlyDetails (E.work engine.old) (E.work engine.new) }
 {
     // Its reading tells the proof that the deck has no fault. By the laws the report is accepted as a certificate.
     let _years = typed.years();
@@ -83,12 +79,8 @@ fn tell_cases<E: SimEngine>(
     requires due { AreDue book.now kept.now }
     requires filled { All (λ lists. All (All (IsFilled book.now kept.now)) (spec.case_demands book.now ids.now lists)) cases.now }
     requires room { HasYearRoom (body_of typed.now) (E.room engine.old) }
-    requires count { E.detailed engine.old + 240 < 2 ^ 64 - 1 }
-    ensures told { OnOk result (Tells (AreCasesTold (body_of typed.now) (says.cases (body_of typed.now))) text.old.items text.new.items (E.detailed engine.old) (E.detailed engine.new)) }
-    ensures few { OnOk result (E.detailed engine.new ≤ E.detailed engine.old + 240) }
-    ensures simulated { E.simulated engine.new ≡ E.simulated engine.old }
-    ensures runs { E.runs engine.new ≡ E.runs engine.old }
-    ensures tape { E.tape engine.new ≡ E.tape engine.old }
+    ensures told { OnOk result (Tells (AreCasesTold (body_of typed.now) (says.cases (body_of typed.now))) text.old.items text.new.items (E.work engine.old).detailed (E.work engine.new).detailed) }
+    ensures work { OnlyDetails (E.work engine.old) (E.work engine.new) }
 {
     // Its reading tells the proof that there are at most 8 cases.
     let _cases = typed.cases();
@@ -123,13 +115,13 @@ fn fill_keys<E: SimEngine>(
     requires numbers { HasYears (body_of typed.now) book.now ids.now }
     requires lists { AreCaseLists (body_of typed.now) cases.now }
     requires room { HasYearRoom (body_of typed.now) (E.room engine.old) }
-    requires count { E.simulated engine.old + 120000 < 2 ^ 64 - 1 }
     ensures filled { OnOk result (All (λ lists. All (All (IsFilled book.now kept.new)) (spec.case_demands book.now ids.now lists)) cases.now) }
-    ensures keys { OnOk result (Simulates (IsKeyOf (body_of typed.now)) book.now kept.old book.now kept.new (E.simulated engine.old) (E.simulated engine.new) (E.tape engine.old) (E.runs engine.old) (E.runs engine.new)) }
+    ensures keys { OnOk result (Simulates (IsKeyOf (body_of typed.now)) book.now kept.old book.now kept.new (E.work engine.old) (E.work engine.new)) }
+    ensures grows { GrowsBy (body_of typed.now) (IsKeyOf (body_of typed.now)) book.now kept.old book.now kept.new }
     ensures due { AreDue book.now kept.new }
     ensures few { length kept.new ≤ length kept.old + 120000 }
-    ensures detailed { E.detailed engine.new ≡ E.detailed engine.old }
-    ensures tape { E.tape engine.new ≡ E.tape engine.old }
+    ensures detailed { (E.work engine.new).detailed ≡ (E.work engine.old).detailed }
+    ensures tape { (E.work engine.new).tape ≡ (E.work engine.old).tape }
     ensures cells_stay { (E.room engine.old).cells ≤ (E.room engine.new).cells }
     ensures units_stay { (E.room engine.old).units ≤ (E.room engine.new).units }
 {
@@ -158,25 +150,24 @@ fn plan_taken<E: SimEngine>(
     requires systems { AreSystems (body_of typed.now) systems.items }
     requires lists { AreCaseLists (body_of typed.now) cases.now }
     requires systems_left { length book.old + 30 ≤ 2048 }
-    requires simulated_left { E.simulated engine.old + 120000 < 2 ^ 64 - 1 }
-    requires detailed_left { E.detailed engine.old + 240 < 2 ^ 64 - 1 }
-    ensures told { OnOk result (Tells (AreCasesTold (body_of typed.now) (says.cases (body_of typed.now))) text.old.items text.new.items (E.detailed engine.old) (E.detailed engine.new)) }
-    ensures keys { OnOk result (Simulates (IsKeyOf (body_of typed.now)) book.old kept.old book.new kept.new (E.simulated engine.old) (E.simulated engine.new) (E.tape engine.old) (E.runs engine.old) (E.runs engine.new)) }
+    ensures told { OnOk result (Tells (AreCasesTold (body_of typed.now) (says.cases (body_of typed.now))) text.old.items text.new.items (E.work engine.old).detailed (E.work engine.new).detailed) }
+    ensures keys { OnOk result (Simulates (IsKeyOf (body_of typed.now)) book.old kept.old book.new kept.new (E.work engine.old) (E.work engine.new)) }
     ensures due { AreDue book.new kept.new }
     ensures ones { AreOnes book.new }
-    ensures grown { HasGrown book.old book.new 30 }
+    ensures grows { GrowsBy (body_of typed.now) (IsKeyOf (body_of typed.now)) book.old kept.old book.new kept.new }
+    ensures systems { length book.new ≤ length book.old + 30 }
     ensures few { length kept.new ≤ length kept.old + 120000 }
-    ensures years { OnOk result (E.detailed engine.new ≤ E.detailed engine.old + 240) }
-    ensures tape { E.tape engine.new ≡ E.tape engine.old }
+    ensures tape { (E.work engine.new).tape ≡ (E.work engine.old).tape }
 {
     // Its reading tells the proof that there are at most 30 years.
     let _years = typed.years();
     due_rows_stand();
     let (cells, units) = room_for(&systems);
     let mut ids = Vec::new(alloc);
-    intern_all(book, systems, &mut ids)?;
+    let interned = intern_all(book, systems, &mut ids);
     // Its reading tells the proof that each system is one.
     let _systems = book.len();
+    interned?;
     engine.ready(cells, units)?;
     fill_keys(alloc, typed, book, &ids, cases, kept, engine)?;
     tell_cases(alloc, typed, book, &ids, kept, cases, engine, text)
@@ -194,17 +185,15 @@ fn plan_typed<E: SimEngine>(
     requires due { AreDue book.old kept.old }
     requires ones { AreOnes book.old }
     requires systems_left { length book.old + 30 ≤ 2048 }
-    requires simulated_left { E.simulated engine.old + 120000 < 2 ^ 64 - 1 }
-    requires detailed_left { E.detailed engine.old + 240 < 2 ^ 64 - 1 }
-    ensures told { OnOk result (Tells (IsDeckTold (body_of typed.now)) text.old.items text.new.items (E.detailed engine.old) (E.detailed engine.new)) }
-    ensures keys { OnOk result (Simulates (Demands (body_of typed.now)) book.old kept.old book.new kept.new (E.simulated engine.old) (E.simulated engine.new) (E.tape engine.old) (E.runs engine.old) (E.runs engine.new)) }
-    ensures refused { OnOk result ((IsTaken (body_of typed.now) → ⊥) → (book.new ≡ book.old) × (kept.new ≡ kept.old)) }
+    ensures told { OnOk result (Tells (IsDeckTold (body_of typed.now)) text.old.items text.new.items (E.work engine.old).detailed (E.work engine.new).detailed) }
+    ensures keys { OnOk result (Simulates (Demands (body_of typed.now)) book.old kept.old book.new kept.new (E.work engine.old) (E.work engine.new)) }
+    ensures refused { (IsTaken (body_of typed.now) → ⊥) → (book.new ≡ book.old) × (kept.new ≡ kept.old) }
     ensures due { AreDue book.new kept.new }
     ensures ones { AreOnes book.new }
-    ensures grown { HasGrown book.old book.new 30 }
+    ensures grows { GrowsBy (body_of typed.now) (Demands (body_of typed.now)) book.old kept.old book.new kept.new }
+    ensures systems { length book.new ≤ length book.old + 30 }
     ensures few { length kept.new ≤ length kept.old + 120000 }
-    ensures years { OnOk result (E.detailed engine.new ≤ E.detailed engine.old + 240) }
-    ensures tape { E.tape engine.new ≡ E.tape engine.old }
+    ensures tape { (E.work engine.new).tape ≡ (E.work engine.old).tape }
 {
     // Its reading tells the proof that the deck meets no row of the fault table.
     let _years = typed.years();
@@ -230,17 +219,15 @@ pub(crate) fn plan_deck<E: SimEngine>(
     requires due { AreDue book.old kept.old }
     requires ones { AreOnes book.old }
     requires systems_left { length book.old + 30 ≤ 2048 }
-    requires simulated_left { E.simulated engine.old + 120000 < 2 ^ 64 - 1 }
-    requires detailed_left { E.detailed engine.old + 240 < 2 ^ 64 - 1 }
-    ensures told { OnOk result (Tells (IsPlanTold (body_of deck.now) number) text.old.items text.new.items (E.detailed engine.old) (E.detailed engine.new)) }
-    ensures keys { OnOk result (Simulates (Demands (body_of deck.now)) book.old kept.old book.new kept.new (E.simulated engine.old) (E.simulated engine.new) (E.tape engine.old) (E.runs engine.old) (E.runs engine.new)) }
-    ensures refused { OnOk result ((IsTaken (body_of deck.now) → ⊥) → (book.new ≡ book.old) × (kept.new ≡ kept.old)) }
+    ensures told { OnOk result (Tells (IsPlanTold (body_of deck.now) number) text.old.items text.new.items (E.work engine.old).detailed (E.work engine.new).detailed) }
+    ensures keys { OnOk result (Simulates (Demands (body_of deck.now)) book.old kept.old book.new kept.new (E.work engine.old) (E.work engine.new)) }
+    ensures refused { (IsTaken (body_of deck.now) → ⊥) → (book.new ≡ book.old) × (kept.new ≡ kept.old) }
     ensures due { AreDue book.new kept.new }
     ensures ones { AreOnes book.new }
-    ensures grown { HasGrown book.old book.new 30 }
+    ensures grows { GrowsBy (body_of deck.now) (Demands (body_of deck.now)) book.old kept.old book.new kept.new }
+    ensures systems { length book.new ≤ length book.old + 30 }
     ensures few { length kept.new ≤ length kept.old + 120000 }
-    ensures years { OnOk result (E.detailed engine.new ≤ E.detailed engine.old + 240) }
-    ensures tape { E.tape engine.new ≡ E.tape engine.old }
+    ensures tape { (E.work engine.new).tape ≡ (E.work engine.old).tape }
 {
     faults_are_met();
     write_heading(number, text)?;

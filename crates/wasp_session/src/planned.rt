@@ -1,5 +1,5 @@
 //! The years of a chosen plan.
-ghost use Rattle.std.specs.Prelude.{◌≡◌, ℕ, ◌+◌, ◌-◌, ◌^◌, ◌<◌, ◌≤◌, List, length, All, IfOk, OnOk, map};
+ghost use Rattle.std.specs.Prelude.{◌≡◌, ℕ, ◌≤◌, List, length, All, IfOk, OnOk, map};
 ghost use Rattle.cost_terms.specs.Cost.{nothing_built};
 ghost use Rattle.cost_terms.specs.CostData.{Fits, greatest as candidate_counts};
 ghost use Rattle.cost_terms.specs.Table.{IsEntry};
@@ -10,10 +10,11 @@ ghost use Rattle.plan_program.specs.Chosen.{IsPlanOf};
 ghost use Rattle.plant_data.specs.Configs.{IsAtMost};
 ghost use Rattle.report_text.specs.ReadBack.{IsPrintableYear};
 ghost use Rattle.report_text.specs.Report.{HasWidths};
+ghost use Rattle.sim_engine.specs.Engine.{counted, raised};
 ghost use Rattle.sim_engine.specs.Row.{row_of};
 ghost use Rattle.wasp_session.specs.Case.{AreYearsFrom, IsTableOf, IsYearOf};
 ghost use Rattle.wasp_session.specs.Listings.{IsOf};
-ghost use Rattle.wasp_session.specs.Steps.{HasPlace, HasRoom, HasYearRoom, HasYears, IsPlaced, IsYearSystem};
+ghost use Rattle.wasp_session.specs.Steps.{HasPlace, HasRoom, HasYearRoom, HasYears, IsPlaced, IsYearSystem, OnlyDetails};
 
 use crate::generation::year_generations;
 use checked_deck::TypedDeck;
@@ -60,17 +61,14 @@ fn plan_year<E: SimEngine>(
     requires grows { IsAtMost before.now entry.now.config }
     requires row { entry.now.row ≡ row_of system.now entry.now.config }
     requires room { HasRoom (E.room engine.old).cells (E.room engine.old).units system.now }
-    requires count { E.detailed engine.old < 2 ^ 64 - 1 }
     ensures year { IfOk result (λ y. IsYearOf (body_of typed.now) case year before.now y) }
     ensures config { IfOk result (λ y. y.config ≡ entry.now.config) }
     ensures widths { IfOk result (λ y. HasWidths (says.greatest (body_of typed.now)) y) }
     ensures printable { IfOk result (λ y. IsPrintableYear y) }
-    ensures detailed { OnOk result (E.detailed engine.new ≡ E.detailed engine.old + 1) }
+    ensures detailed { OnOk result ((E.work engine.new).detailed ≡ counted (E.work engine.old).detailed) }
     ensures cells_stay { (E.room engine.old).cells ≤ (E.room engine.new).cells }
     ensures units_stay { (E.room engine.old).units ≤ (E.room engine.new).units }
-    ensures simulated { E.simulated engine.new ≡ E.simulated engine.old }
-    ensures runs { E.runs engine.new ≡ E.runs engine.old }
-    ensures tape { E.tape engine.new ≡ E.tape engine.old }
+    ensures work { OnlyDetails (E.work engine.old) (E.work engine.new) }
 {
     Ok(PlanYear {
         config: entry.config,
@@ -100,18 +98,14 @@ pub(crate) fn plan_years<E: SimEngine>(
     requires width { candidate_counts table.now.economy ≡ says.greatest (body_of typed.now) }
     requires chosen { (total : ℕ) × IsPlanOf table.now configs.now total }
     requires room { HasYearRoom (body_of typed.now) (E.room engine.old) }
-    requires count { E.detailed engine.old + 30 < 2 ^ 64 - 1 }
     ensures years { IfOk result (λ ys. AreYearsFrom (body_of typed.now) case 1 (nothing_built (costs (body_of typed.now))) ys) }
     ensures configs { IfOk result (λ ys. map (λ y. y.config) ys ≡ configs.now) }
     ensures widths { IfOk result (λ ys. All (HasWidths (says.greatest (body_of typed.now))) ys) }
     ensures printable { IfOk result (λ ys. All IsPrintableYear ys) }
-    ensures detailed { OnOk result (E.detailed engine.new ≡ E.detailed engine.old + length configs.now) }
-    ensures few { length configs.now ≤ 30 }
+    ensures detailed { OnOk result ((E.work engine.new).detailed ≡ raised (length configs.now) (E.work engine.old).detailed) }
     ensures cells_stay { (E.room engine.old).cells ≤ (E.room engine.new).cells }
     ensures units_stay { (E.room engine.old).units ≤ (E.room engine.new).units }
-    ensures simulated { E.simulated engine.new ≡ E.simulated engine.old }
-    ensures runs { E.runs engine.new ≡ E.runs engine.old }
-    ensures tape { E.tape engine.new ≡ E.tape engine.old }
+    ensures work { OnlyDetails (E.work engine.old) (E.work engine.new) }
 {
     let economy = table.economy();
     let layers = table.layers();

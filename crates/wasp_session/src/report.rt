@@ -1,5 +1,5 @@
 //! The report of a settled case.
-ghost use Rattle.std.specs.Prelude.{◌≡◌, ◌+◌, ◌-◌, ◌^◌, ◌<◌, ◌≤◌, All, IfOk, length, map};
+ghost use Rattle.std.specs.Prelude.{◌≡◌, ◌≤◌, All, IfOk, length, map};
 ghost use Rattle.cost_terms.specs.Cost.{nothing_built};
 ghost use Rattle.cost_terms.specs.CostData.{greatest as candidate_counts};
 ghost use Rattle.cost_terms.specs.Table.{IsTable};
@@ -9,8 +9,9 @@ ghost use Rattle.deck_lines.specs.Deck.{body_of};
 ghost use Rattle.plan_program.specs.Chosen.{IsOutcome, IsSolution};
 ghost use Rattle.report_text.specs.ReadBack.{IsPrintable, IsPrintableYear};
 ghost use Rattle.report_text.specs.Report.{HasWidths, IsCaseReport, plan_of};
+ghost use Rattle.sim_engine.specs.Engine.{raised};
 ghost use Rattle.wasp_session.specs.Case.{AreYearsFrom, IsReportOf, IsTableOf, conditions_of};
-ghost use Rattle.wasp_session.specs.Steps.{HasYearRoom, HasYears};
+ghost use Rattle.wasp_session.specs.Steps.{HasYearRoom, HasYears, OnlyDetails};
 ghost use Rattle.year_system.specs.System.{greatest};
 
 use crate::planned::plan_years;
@@ -67,18 +68,14 @@ fn years_of<E: SimEngine>(
     requires width { candidate_counts table.now.economy ≡ says.greatest (body_of typed.now) }
     requires outcome { IsOutcome table.now outcome.now }
     requires room { HasYearRoom (body_of typed.now) (E.room engine.old) }
-    requires count { E.detailed engine.old + 30 < 2 ^ 64 - 1 }
     ensures years { IfOk result (λ ys. AreYearsFrom (body_of typed.now) case 1 (nothing_built (costs (body_of typed.now))) ys) }
     ensures plan { IfOk result (λ ys. map (λ y. y.config) ys ≡ plan_of outcome.now) }
     ensures widths { IfOk result (λ ys. All (HasWidths (says.greatest (body_of typed.now))) ys) }
     ensures printable { IfOk result (λ ys. All IsPrintableYear ys) }
-    ensures detailed { IfOk result (λ ys. E.detailed engine.new ≡ E.detailed engine.old + length ys) }
-    ensures few { IfOk result (λ ys. length ys ≤ 30) }
+    ensures detailed { IfOk result (λ ys. (E.work engine.new).detailed ≡ raised (length ys) (E.work engine.old).detailed) }
     ensures cells_stay { (E.room engine.old).cells ≤ (E.room engine.new).cells }
     ensures units_stay { (E.room engine.old).units ≤ (E.room engine.new).units }
-    ensures simulated { E.simulated engine.new ≡ E.simulated engine.old }
-    ensures runs { E.runs engine.new ≡ E.runs engine.old }
-    ensures tape { E.tape engine.new ≡ E.tape engine.old }
+    ensures work { OnlyDetails (E.work engine.old) (E.work engine.new) }
 {
     match outcome {
         Outcome::Plan { configs, .. } => {
@@ -114,18 +111,14 @@ pub(crate) fn report_case<E: SimEngine>(
     requires width { candidate_counts done.table.economy ≡ says.greatest (body_of typed.now) }
     requires solution { IsSolution done.table done.solved }
     requires room { HasYearRoom (body_of typed.now) (E.room engine.old) }
-    requires count { E.detailed engine.old + 30 < 2 ^ 64 - 1 }
     ensures report { IfOk result (λ report. IsReportOf (body_of typed.now) case report) }
     ensures in_form { IfOk result (λ report. IsCaseReport report) }
     ensures table { IfOk result (λ report. IsTable report.table) }
     ensures printable { IfOk result (λ report. IsPrintable case report) }
-    ensures detailed { IfOk result (λ report. E.detailed engine.new ≡ E.detailed engine.old + length report.years) }
-    ensures few { IfOk result (λ report. length report.years ≤ 30) }
+    ensures detailed { IfOk result (λ report. (E.work engine.new).detailed ≡ raised (length report.years) (E.work engine.old).detailed) }
     ensures cells_stay { (E.room engine.old).cells ≤ (E.room engine.new).cells }
     ensures units_stay { (E.room engine.old).units ≤ (E.room engine.new).units }
-    ensures simulated { E.simulated engine.new ≡ E.simulated engine.old }
-    ensures runs { E.runs engine.new ≡ E.runs engine.old }
-    ensures tape { E.tape engine.new ≡ E.tape engine.old }
+    ensures work { OnlyDetails (E.work engine.old) (E.work engine.new) }
 {
     // Its reading tells the proof that there is a year.
     let _years = typed.years();

@@ -1,5 +1,5 @@
 //! The session of a run.
-ghost use Rattle.std.specs.Prelude.{◌≡◌, ℕ, ◌+◌, ◌-◌, ◌^◌, ◌<◌, ◌≤◌, ◌↔◌, [], ◌∷◌, ◌++◌, List, IfOk, IfSome, IsErr, IsTrue, None, OnErr, OnOk, All, Some, drop, false, length, slice_get, if◌then◌else◌};
+ghost use Rattle.std.specs.Prelude.{◌≡◌, ℕ, ◌+◌, ◌<◌, ◌≤◌, ◌↔◌, [], ◌∷◌, ◌++◌, List, IfOk, IsErr, IsTrue, None, OnErr, OnOk, Some, drop, false, length, map};
 ghost use Rattle.deck_lines.specs.Deck.{body_of, put, without};
 ghost use Rattle.deck_lines.specs.Grammar.{IsCertLine, IsLine};
 ghost use Rattle.deck_lines.specs.Statements.{IsStatement};
@@ -7,12 +7,13 @@ ghost use Rattle.report_text.specs.Lines.{keys_line};
 ghost use Rattle.deck_lines.specs.declared.line.Line.{Line as Stated};
 ghost use Rattle.deck_lines.specs.declared.line.Line.TheVariants as lines;
 ghost use Rattle.wasp_session.specs.Checks.{check_count, nos_of, with_line};
-ghost use Rattle.wasp_session.specs.Keys.{CountsKeys, Demands, DemandsAtEnd, DemandsOn};
+ghost use Rattle.sim_sweep.specs.Works.{first_work};
+ghost use Rattle.wasp_session.specs.Keys.{CountsKeys, Demands, DemandsAtEnd, DemandsOn, IsCheckedAtEnd, IsTakenOn};
 ghost use Rattle.wasp_session.specs.Listings.{IsTaken};
 ghost use Rattle.wasp_session.specs.Modes.{IsOfMode, mode_of};
 ghost use Rattle.wasp_session.specs.Said.{IsCheckTold, IsLineTold, IsPlanTold, Tells, TellsAll, plan_count};
 ghost use Rattle.wasp_session.specs.State.{Follows, IsState};
-ghost use Rattle.wasp_session.specs.Steps.{HasCountsLeft, IfBoth, Simulates};
+ghost use Rattle.wasp_session.specs.Steps.{GrowsBy, Simulates};
 ghost use Rattle.wasp_session.specs.declared.command.Command.TheVariants as commands;
 ghost use Rattle.wasp_session.specs.declared.command.Step.TheVariants as steps;
 
@@ -27,6 +28,7 @@ use sim_engine::SimEngine;
 use sim_sweep::Kept;
 use std::alloc::Global;
 use std::marker::Model;
+use std::thread::Threads;
 use wasp_fixed::OutOfMemory;
 use year_system::Book;
 
@@ -86,7 +88,7 @@ impl Session {
             command,
             deck,
             book: Book::new(alloc),
-            kept: Kept::new(alloc),
+            kept: Kept::empty(alloc),
             plans: 0,
             checks: 0,
             opened: None,
@@ -153,13 +155,11 @@ impl Session {
     ) -> Result<(), OutOfMemory>
         requires command { self.old.command ≡ commands.Plan }
         requires plans { self.old.plans < 64 }
-        requires simulated_left { E.simulated engine.old + 120000 < 2 ^ 64 - 1 }
-        requires detailed_left { E.detailed engine.old + 240 < 2 ^ 64 - 1 }
-        ensures told { OnOk result (Tells (IsPlanTold (body_of self.old.deck) (self.old.plans + 1)) text.old.items text.new.items (E.detailed engine.old) (E.detailed engine.new)) }
-        ensures keys { OnOk result (Simulates (Demands (body_of self.old.deck)) self.old.book self.old.kept self.new.book self.new.kept (E.simulated engine.old) (E.simulated engine.new) (E.tape engine.old) (E.runs engine.old) (E.runs engine.new)) }
-        ensures refusal { OnOk result ((IsTaken (body_of self.old.deck) → ⊥) → (self.new.book ≡ self.old.book) × (self.new.kept ≡ self.old.kept)) }
-        ensures years { OnOk result (E.detailed engine.new ≤ E.detailed engine.old + 240) }
-        ensures tape { E.tape engine.new ≡ E.tape engine.old }
+        ensures told { OnOk result (Tells (IsPlanTold (body_of self.old.deck) (self.old.plans + 1)) text.old.items text.new.items (E.work engine.old).detailed (E.work engine.new).detailed) }
+        ensures keys { OnOk result (Simulates (Demands (body_of self.old.deck)) self.old.book self.old.kept self.new.book self.new.kept (E.work engine.old) (E.work engine.new)) }
+        ensures refused { (IsTaken (body_of self.old.deck) → ⊥) → (self.new.book ≡ self.old.book) × (self.new.kept ≡ self.old.kept) }
+        ensures grows { GrowsBy (body_of self.old.deck) (Demands (body_of self.old.deck)) self.old.book self.old.kept self.new.book self.new.kept }
+        ensures tape { (E.work engine.new).tape ≡ (E.work engine.old).tape }
         ensures state { OnOk result (self.new ≡ record self.old { book = self.new.book; kept = self.new.kept; plans = self.old.plans + 1 }) }
         ensures deck { self.new.deck ≡ self.old.deck }
         ensures command { self.new.command ≡ self.old.command }
@@ -189,10 +189,10 @@ impl Session {
 
     /// Plans the deck, which counts as a PLAN line: its text comes behind the others. The first engine works.
     ///
-    /// It simulates at most 120,000 keys and details at most 240 years. After `OutOfMemory` the text is as before, and
-    /// the session answers `OutOfMemory` to every later call that can.
-    pub fn plan<E: SimEngine>(
+    /// After `OutOfMemory` the text is as before, and the session answers `OutOfMemory` to every later call that can.
+    pub fn plan<E: SimEngine, R: Threads + Sync>(
         &mut self,
+        _rt: &R,
         engines: &mut [E],
         text: &mut Vec<u8>,
     ) -> Result<(), OutOfMemory>
@@ -200,15 +200,14 @@ impl Session {
         requires most { length engines.old ≤ 64 }
         requires command { self.old.command ≡ commands.Plan }
         requires plans { self.old.plans < 64 }
-        requires counts { IfSome (slice_get engines.old 0) (λ e. HasCountsLeft (E.simulated e) (E.detailed e)) }
-        ensures told { OnOk result (IfBoth (slice_get engines.old 0) (slice_get engines.new 0) (λ before after. Tells (IsPlanTold (body_of self.old.deck) (self.old.plans + 1)) text.old.items text.new.items (E.detailed before) (E.detailed after))) }
-        ensures keys { OnOk result (IfBoth (slice_get engines.old 0) (slice_get engines.new 0) (λ before after. Simulates (Demands (body_of self.old.deck)) self.old.book self.old.kept self.new.book self.new.kept (E.simulated before) (E.simulated after) (E.tape before) (E.runs before) (E.runs after))) }
-        ensures years { OnOk result (IfBoth (slice_get engines.old 0) (slice_get engines.new 0) (λ before after. E.detailed after ≤ E.detailed before + 240)) }
-        ensures tape { IfBoth (slice_get engines.old 0) (slice_get engines.new 0) (λ before after. E.tape after ≡ E.tape before) }
+        ensures told { OnOk result (Tells (IsPlanTold (body_of self.old.deck) (self.old.plans + 1)) text.old.items text.new.items (first_work (map E.work engines.old)).detailed (first_work (map E.work engines.new)).detailed) }
+        ensures keys { OnOk result (Simulates (Demands (body_of self.old.deck)) self.old.book self.old.kept self.new.book self.new.kept (first_work (map E.work engines.old)) (first_work (map E.work engines.new))) }
+        ensures tape { (first_work (map E.work engines.new)).tape ≡ (first_work (map E.work engines.old)).tape }
         ensures others { drop 1 engines.new ≡ drop 1 engines.old }
 
-        // A refused one leaves the book and the rows.
-        ensures refusal { OnOk result ((IsTaken (body_of self.old.deck) → ⊥) → (self.new.book ≡ self.old.book) × (self.new.kept ≡ self.old.kept)) }
+        // A refused one leaves the book and the rows, also where memory is wanting.
+        ensures refused { (IsTaken (body_of self.old.deck) → ⊥) → (self.new.book ≡ self.old.book) × (self.new.kept ≡ self.old.kept) }
+        ensures grows { GrowsBy (body_of self.old.deck) (Demands (body_of self.old.deck)) self.old.book self.old.kept self.new.book self.new.kept }
         ensures state { OnOk result (self.new ≡ record self.old { book = self.new.book; kept = self.new.kept; plans = self.old.plans + 1 }) }
         ensures deck { self.new.deck ≡ self.old.deck }
         ensures command { self.new.command ≡ self.old.command }
@@ -224,6 +223,7 @@ impl Session {
         requires { IsStatement statement }
         ensures deck { OnOk result (self.new ≡ record self.old { deck = put self.old.deck statement }) }
         ensures err_deck { OnErr result (self.new.deck ≡ self.old.deck) }
+        ensures rows { (self.new.book ≡ self.old.book) × (self.new.kept ≡ self.old.kept) }
         ensures command { self.new.command ≡ self.old.command }
         ensures err { IsTrue self.new.refused ↔ IsErr result }
         ensures later { IsTrue self.old.refused → IsErr result }
@@ -260,6 +260,7 @@ impl Session {
     fn keep(&mut self, line: CertLine) -> Result<(), OutOfMemory>
         requires { IsCertLine line }
         ensures state { OnOk result (self.new ≡ record self.old { opened = with_line self.old.opened line }) }
+        ensures rows { (self.new.book ≡ self.old.book) × (self.new.kept ≡ self.old.kept) }
         ensures deck { self.new.deck ≡ self.old.deck }
         ensures command { self.new.command ≡ self.old.command }
         ensures err { IsTrue self.new.refused ↔ IsErr result }
@@ -283,11 +284,11 @@ impl Session {
         text: &mut Vec<u8>,
     ) -> Result<(), OutOfMemory>
         requires command { self.old.command ≡ commands.Check }
-        requires simulated_left { E.simulated engine.old + 120000 < 2 ^ 64 - 1 }
-        ensures told { OnOk result (TellsAll (IsCheckTold (body_of self.old.deck) self.old.checks self.old.opened) text.old.items text.new.items (E.detailed engine.old) (E.detailed engine.new) self.old.nos self.new.nos) }
-        ensures keys { OnOk result (Simulates (DemandsAtEnd (body_of self.old.deck) self.old.opened) self.old.book self.old.kept self.new.book self.new.kept (E.simulated engine.old) (E.simulated engine.new) (E.tape engine.old) (E.runs engine.old) (E.runs engine.new)) }
-        ensures detailed { E.detailed engine.new ≡ E.detailed engine.old }
-        ensures tape { E.tape engine.new ≡ E.tape engine.old }
+        ensures told { OnOk result (TellsAll (IsCheckTold (body_of self.old.deck) self.old.checks self.old.opened) text.old.items text.new.items (E.work engine.old).detailed (E.work engine.new).detailed self.old.nos self.new.nos) }
+        ensures keys { OnOk result (Simulates (DemandsAtEnd (body_of self.old.deck) self.old.opened) self.old.book self.old.kept self.new.book self.new.kept (E.work engine.old) (E.work engine.new)) }
+        ensures tape { (E.work engine.new).tape ≡ (E.work engine.old).tape }
+        ensures refused { (IsCheckedAtEnd (body_of self.old.deck) self.old.opened → ⊥) → (self.new.book ≡ self.old.book) × (self.new.kept ≡ self.old.kept) }
+        ensures grows { GrowsBy (body_of self.old.deck) (DemandsAtEnd (body_of self.old.deck) self.old.opened) self.old.book self.old.kept self.new.book self.new.kept }
         ensures state { OnOk result (self.new ≡ record self.old { book = self.new.book; kept = self.new.kept; nos = self.new.nos; opened = None }) }
         ensures deck { self.new.deck ≡ self.old.deck }
         ensures command { self.new.command ≡ self.old.command }
@@ -325,12 +326,12 @@ impl Session {
         requires some { 1 ≤ length engines.old }
         requires most { length engines.old ≤ 64 }
         requires command { self.old.command ≡ commands.Check }
-        requires counts { IfSome (slice_get engines.old 0) (λ e. HasCountsLeft (E.simulated e) (E.detailed e)) }
-        ensures told { OnOk result (IfBoth (slice_get engines.old 0) (slice_get engines.new 0) (λ before after. TellsAll (IsCheckTold (body_of self.old.deck) self.old.checks self.old.opened) text.old.items text.new.items (E.detailed before) (E.detailed after) self.old.nos self.new.nos)) }
-        ensures keys { OnOk result (IfBoth (slice_get engines.old 0) (slice_get engines.new 0) (λ before after. Simulates (DemandsAtEnd (body_of self.old.deck) self.old.opened) self.old.book self.old.kept self.new.book self.new.kept (E.simulated before) (E.simulated after) (E.tape before) (E.runs before) (E.runs after))) }
-        ensures years { OnOk result (IfBoth (slice_get engines.old 0) (slice_get engines.new 0) (λ before after. E.detailed after ≤ E.detailed before + 240)) }
-        ensures tape { IfBoth (slice_get engines.old 0) (slice_get engines.new 0) (λ before after. E.tape after ≡ E.tape before) }
+        ensures told { OnOk result (TellsAll (IsCheckTold (body_of self.old.deck) self.old.checks self.old.opened) text.old.items text.new.items (first_work (map E.work engines.old)).detailed (first_work (map E.work engines.new)).detailed self.old.nos self.new.nos) }
+        ensures keys { OnOk result (Simulates (DemandsAtEnd (body_of self.old.deck) self.old.opened) self.old.book self.old.kept self.new.book self.new.kept (first_work (map E.work engines.old)) (first_work (map E.work engines.new))) }
+        ensures tape { (first_work (map E.work engines.new)).tape ≡ (first_work (map E.work engines.old)).tape }
         ensures others { drop 1 engines.new ≡ drop 1 engines.old }
+        ensures refused { (IsCheckedAtEnd (body_of self.old.deck) self.old.opened → ⊥) → (self.new.book ≡ self.old.book) × (self.new.kept ≡ self.old.kept) }
+        ensures grows { GrowsBy (body_of self.old.deck) (DemandsAtEnd (body_of self.old.deck) self.old.opened) self.old.book self.old.kept self.new.book self.new.kept }
         ensures state { OnOk result (self.new ≡ record self.old { book = self.new.book; kept = self.new.kept; nos = self.new.nos; opened = None }) }
         ensures deck { self.new.deck ≡ self.old.deck }
         ensures command { self.new.command ≡ self.old.command }
@@ -345,6 +346,7 @@ impl Session {
     fn end(&mut self, text: &mut Vec<u8>) -> Result<(), OutOfMemory>
         ensures text { OnOk result (text.new.items ≡ text.old.items ++ keys_line (length self.old.kept)) }
         ensures same { OnOk result (self.new ≡ self.old) }
+        ensures rows { (self.new.book ≡ self.old.book) × (self.new.kept ≡ self.old.kept) }
         ensures deck { self.new.deck ≡ self.old.deck }
         ensures command { self.new.command ≡ self.old.command }
         ensures err_text { OnErr result (text.new.items ≡ text.old.items) }
@@ -362,8 +364,9 @@ impl Session {
 
     /// Does what a line says: its text comes behind the others, and the deck, the book and the rows go on. `Ended`
     /// comes exactly at END.
-    pub fn line<E: SimEngine>(
+    pub fn line<E: SimEngine, R: Threads + Sync>(
         &mut self,
+        rt: &R,
         line: Line,
         engines: &mut [E],
         text: &mut Vec<u8>,
@@ -374,16 +377,21 @@ impl Session {
         requires mode { IsOfMode (mode_of self.old.command self.old.opened) line }
         requires plans { line ≡ lines.Plan → self.old.plans < 64 }
         requires checks { (c : ℕ) → line ≡ lines.Check c → self.old.checks < 64 }
-        requires counts { IfSome (slice_get engines.old 0) (λ e. HasCountsLeft (E.simulated e) (E.detailed e)) }
 
         // Where the session has gone through lines, it tells of this one what they make of it, and has then gone
         // through this one too.
-        ensures told { (ls : List Stated) → Follows ls self.old → OnOk result (IfBoth (slice_get engines.old 0) (slice_get engines.new 0) (λ before after. TellsAll (IsLineTold ls line) text.old.items text.new.items (E.detailed before) (E.detailed after) self.old.nos self.new.nos)) }
+        ensures told { (ls : List Stated) → Follows ls self.old → OnOk result (TellsAll (IsLineTold ls line) text.old.items text.new.items (first_work (map E.work engines.old)).detailed (first_work (map E.work engines.new)).detailed self.old.nos self.new.nos) }
         ensures follows { (ls : List Stated) → Follows ls self.old → OnOk result (Follows (ls ++ line ∷ []) self.new) }
-        ensures keys { OnOk result (IfBoth (slice_get engines.old 0) (slice_get engines.new 0) (λ before after. Simulates (DemandsOn (body_of self.old.deck) self.old.opened line) self.old.book self.old.kept self.new.book self.new.kept (E.simulated before) (E.simulated after) (E.tape before) (E.runs before) (E.runs after))) }
-        ensures years { OnOk result (IfBoth (slice_get engines.old 0) (slice_get engines.new 0) (λ before after. E.detailed after ≤ E.detailed before + 240)) }
-        ensures tape { IfBoth (slice_get engines.old 0) (slice_get engines.new 0) (λ before after. E.tape after ≡ E.tape before) }
+        ensures keys { OnOk result (Simulates (DemandsOn (body_of self.old.deck) self.old.opened line) self.old.book self.old.kept self.new.book self.new.kept (first_work (map E.work engines.old)) (first_work (map E.work engines.new))) }
+        ensures tape { (first_work (map E.work engines.new)).tape ≡ (first_work (map E.work engines.old)).tape }
         ensures others { drop 1 engines.new ≡ drop 1 engines.old }
+
+        // Only a PLAN and an ENDCHECK change the book and the rows, and only where they are not refused and the
+        // certificate is in its form. The book then grows by systems of the deck's years, and the rows by those of the
+        // keys demanded. All this stands also where memory is wanting.
+        ensures stay { (line ≡ lines.Plan → ⊥) → (line ≡ lines.EndCheck → ⊥) → (self.new.book ≡ self.old.book) × (self.new.kept ≡ self.old.kept) }
+        ensures refused { (IsTakenOn (body_of self.old.deck) self.old.opened line → ⊥) → (self.new.book ≡ self.old.book) × (self.new.kept ≡ self.old.kept) }
+        ensures grows { GrowsBy (body_of self.old.deck) (DemandsOn (body_of self.old.deck) self.old.opened line) self.old.book self.old.kept self.new.book self.new.kept }
         ensures plans { OnOk result (self.new.plans ≡ self.old.plans + plan_count (line ∷ [])) }
         ensures command { self.new.command ≡ self.old.command }
         ensures end { line ≡ lines.End → OnOk result ((text.new.items ≡ text.old.items ++ keys_line (length self.old.kept)) × (engines.new ≡ engines.old) × (self.new.nos ≡ self.old.nos)) }
@@ -406,7 +414,7 @@ impl Session {
                 Ok(Step::Go)
             }
             Line::Plan => {
-                self.plan(engines, text)?;
+                self.plan(rt, engines, text)?;
                 // Its reading tells the proof that the rows are those of their keys.
                 let _plans = self.plans();
                 Ok(Step::Go)

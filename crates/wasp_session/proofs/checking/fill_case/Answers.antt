@@ -1,10 +1,12 @@
-use Rattle.std.proofs.Common.{ap, length, arith}
+use Rattle.std.proofs.Common.{ap, refl, length, arith}
 use Rattle.std.proofs.lemmas.Result.{on_ok_weaker}
 use Rattle.deck_lines.specs.Deck.{body_of}
 use Rattle.wasp_session.proofs.AskSteps.{fit_book}
 use Rattle.wasp_session.proofs.CaseKeys.{case_asked, case_filled, case_simulates, pushed_on_none}
 use Rattle.wasp_session.proofs.FillKeys.{few_rows}
-use Rattle.wasp_session.proofs.PlanKeys.{on_either, on_ok7}
+use Rattle.wasp_session.proofs.GrowSteps.{grows_filled, grows_same}
+use Rattle.wasp_session.proofs.PlanKeys.{on_either, on_ok5}
+use Rattle.wasp_session.specs.Keys.{IsCaseKeyOf}
 use Rattle.wasp_session.proofs.checking.fill_case.Goals as goal
 
 pub push_years-requires : goal.push_years-requires
@@ -22,13 +24,6 @@ fill-requires-clause-room g c κs outlives =
     (case_asked (body_of c.args.typed.now) c.args.book.now c.args.ids.now c.args.case c.args.lists.now (g.E.SimEngine.room c.args.engine.now) c.deref.result.now c.years-years.result
     c.years-years.ensures.value c.years-years.ensures.high c.requires.numbers c.requires.lists c.requires.room asked).within
 
-pub fill-requires-clause-count : goal.fill-requires-clause-count
-fill-requires-clause-count g c =
-    let asked = pushed_on_none c.args.book.now c.args.ids.now c.args.lists.now _ _ _ c.deref.ensures.value c.in_ok-push_years.ensures c.new-demands.ensures.items in
-    let are = case_asked (body_of c.args.typed.now) c.args.book.now c.args.ids.now c.args.case c.args.lists.now (g.E.SimEngine.room c.args.engine.now) c.deref.result.now c.years-years.result
-    c.years-years.ensures.value c.years-years.ensures.high c.requires.numbers c.requires.lists c.requires.room asked in
-    omega (arith, c.requires.count, are.few)
-
 pub returns-clause-filled : goal.returns-clause-filled
 returns-clause-filled g c =
     let asked = pushed_on_none c.args.book.now c.args.ids.now c.args.lists.now _ _ _ c.deref.ensures.value c.in_ok-push_years.ensures c.new-demands.ensures.items in
@@ -41,12 +36,35 @@ returns-clause-keys g c =
     let e = g.E.SimEngine in
     let f = c.fill.ensures in
     let asked = pushed_on_none c.args.book.now c.args.ids.now c.args.lists.now _ _ _ c.deref.ensures.value c.in_ok-push_years.ensures c.new-demands.ensures.items in
-    on_ok7 c.fill.result _ _ _ _ _ _ _ _ f.filled f.stays f.only f.many f.simulated f.told f.only_told
-    (λ filled stays only many counts told only_told.
+    on_ok5 c.fill.result _ _ _ _ _ _ f.filled f.stays f.only f.many f.worked
+    (λ filled stays only many worked.
     case_simulates c.new_codes_come_once.ensures (body_of c.args.typed.now) c.args.book.now c.args.ids.now c.args.case c.args.lists.now c.deref.result.now c.args.kept.now c.fill.new.kept
-    (e.simulated c.args.engine.now) (e.simulated c.fill.new.engine) (e.tape c.args.engine.now) (e.runs c.args.engine.now) (e.runs c.fill.new.engine)
+    (e.work c.args.engine.now) (e.work c.fill.new.engine)
     c.requires.low c.requires.high c.requires.ones c.len-systems.ensures.valid c.requires.numbers c.requires.lists asked
-    (record { filled = filled; stays = stays; only = only; many = many; counts = counts; told = told; only_told = only_told }))
+    (record { filled = filled; stays = stays; only = only; many = many; worked = worked }))
+
+pub returns-clause-grows : goal.returns-clause-grows
+returns-clause-grows g c =
+    let d = body_of c.args.typed.now in
+    let demanded = IsCaseKeyOf d c.args.case in
+    on_either c.fill.result _ _ _ (returns-clause-keys g c) c.fill.ensures.err_kept
+    (λ keys. grows_filled d demanded c.args.book.now c.args.kept.now c.fill.new.kept keys.new keys.adds)
+    (λ same. grows_same d demanded c.args.book.now c.args.book.now c.args.kept.now c.fill.new.kept refl same)
+
+pub returns-in_err-push_years-clause-grows : goal.returns-in_err-push_years-clause-grows
+returns-in_err-push_years-clause-grows g c =
+    let d = body_of c.args.typed.now in
+    grows_same d (IsCaseKeyOf d c.args.case) c.args.book.now c.args.book.now c.args.kept.now c.args.kept.now refl refl
+
+pub returns-clause-detailed : goal.returns-clause-detailed
+returns-clause-detailed g c =
+    let e = g.E.SimEngine in
+    on_either c.fill.result _ _ _ c.fill.ensures.worked c.fill.ensures.err_engine (λ worked. worked.detailed) (λ same. ap (λ x. (e.work x).detailed) same)
+
+pub returns-clause-tape : goal.returns-clause-tape
+returns-clause-tape g c =
+    let e = g.E.SimEngine in
+    on_either c.fill.result _ _ _ c.fill.ensures.worked c.fill.ensures.err_engine (λ worked. worked.tape) (λ same. ap (λ x. (e.work x).tape) same)
 
 pub returns-clause-few : goal.returns-clause-few
 returns-clause-few g c =

@@ -1,7 +1,8 @@
 use Rattle.std.proofs.Common.{◌<◌, ◌+◌, [], ◌∷◌, length, length-append, arith}
 use Rattle.std.proofs.lemmas.Bool.Decides.{nat_tests}
 use Rattle.std.proofs.lemmas.Grind.{common_steps}
-use Rattle.wasp_session.proofs.ListSteps.{IsInterned, grown_more, grown_most, numbers_more, ones_more, rest_drop, rest_first}
+use Rattle.wasp_session.proofs.EachSteps.{in_place}
+use Rattle.wasp_session.proofs.ListSteps.{IsInterned, few_more, grown_more, numbers_more, ones_more, rest_drop, rest_first}
 use Rattle.wasp_session.proofs.interning.intern_all.Goals as goal
 
 pub loop-systems-preserved : goal.loop-systems-preserved
@@ -17,7 +18,8 @@ loop-systems-preserved c =
     (record {
       count = omega (arith, more, first.0);
       rest = rest_drop c.args.systems.items l.systems.items c.remove-system.new.self.items (length l.ids.items) _ l.invariant.rest c.remove-system.ensures.items (omega (arith, more));
-      grown = grown_most c.args.book.now c.intern.new.self _ _ (omega (arith, more)) (grown_more c.args.book.now l.book c.intern.new.self s id (length l.ids.items) is l.invariant.grown);
+      grown = grown_more c.args.book.now l.book c.intern.new.self c.args.systems.items s id is (in_place c.args.systems.items (length l.ids.items) s first.1) l.invariant.grown;
+      few = omega (arith, more, few_more l.book c.intern.new.self s id is, l.invariant.few);
       ones = ones_more l.book c.intern.new.self s id is l.invariant.ones;
       numbers = numbers_more l.book c.intern.new.self c.args.systems.items l.ids.items s id is first.0 first.1 l.invariant.numbers;
     })
@@ -35,4 +37,13 @@ returns-in_err-push-clause-grown c =
     let is : IsInterned l.book c.intern.new.self s c.in_ok-intern.field-0 = record { number = c.in_ok-intern.ensures.number; found = c.in_ok-intern.ensures.found; added = c.in_ok-intern.ensures.added } in
     let some : 0 < length l.systems.items = grind (arith, common_steps, nat_tests) in
     let first = rest_first c.args.systems.items l.systems.items (length l.ids.items) s l.invariant.rest some c.remove-system.ensures.value in
-    grown_most c.args.book.now c.intern.new.self (length l.ids.items + 1) (length c.args.systems.items) (omega (arith, first.0)) (grown_more c.args.book.now l.book c.intern.new.self s c.in_ok-intern.field-0 (length l.ids.items) is l.invariant.grown)
+    grown_more c.args.book.now l.book c.intern.new.self c.args.systems.items s c.in_ok-intern.field-0 is (in_place c.args.systems.items (length l.ids.items) s first.1) l.invariant.grown
+
+pub returns-in_err-push-clause-few : goal.returns-in_err-push-clause-few
+returns-in_err-push-clause-few c =
+    let l = c.loop-systems in
+    let s = c.remove-system.result in
+    let is : IsInterned l.book c.intern.new.self s c.in_ok-intern.field-0 = record { number = c.in_ok-intern.ensures.number; found = c.in_ok-intern.ensures.found; added = c.in_ok-intern.ensures.added } in
+    let some : 0 < length l.systems.items = grind (arith, common_steps, nat_tests) in
+    let first = rest_first c.args.systems.items l.systems.items (length l.ids.items) s l.invariant.rest some c.remove-system.ensures.value in
+    omega (arith, first.0, few_more l.book c.intern.new.self s c.in_ok-intern.field-0 is, l.invariant.few)

@@ -1,8 +1,10 @@
-use Rattle.std.proofs.Common.{◌∙◌, ap, length, arith}
+use Rattle.std.proofs.Common.{◌∙◌, ap, refl, length, arith}
 use Rattle.std.proofs.lemmas.Result.{on_ok_weaker}
 use Rattle.deck_lines.specs.Deck.{body_of}
 use Rattle.wasp_session.proofs.FillKeys.{are_asked, cases_filled, few_rows, fit_all, keys_filled}
-use Rattle.wasp_session.proofs.PlanKeys.{on_either, on_ok7}
+use Rattle.wasp_session.proofs.GrowSteps.{grows_filled, grows_same}
+use Rattle.wasp_session.proofs.PlanKeys.{on_either, on_ok5}
+use Rattle.wasp_session.specs.Keys.{IsKeyOf}
 use Rattle.wasp_session.proofs.plan.fill_keys.Goals as goal
 
 pub all_demands-requires : goal.all_demands-requires
@@ -18,12 +20,6 @@ fill-requires-clause-room g c κs outlives =
     (are_asked (body_of c.args.typed.now) c.args.book.now c.args.ids.now c.args.cases.now (g.E.SimEngine.room c.args.engine.now) c.deref.result.now c.cases-cases.result c.years-years.result
     c.cases-cases.ensures.value c.cases-cases.ensures.high c.years-years.ensures.value c.years-years.ensures.high c.requires.numbers c.requires.lists c.requires.room (c.deref.ensures.value ∙ c.in_ok-demands.ensures)).within
 
-pub fill-requires-clause-count : goal.fill-requires-clause-count
-fill-requires-clause-count g c =
-    let asked = are_asked (body_of c.args.typed.now) c.args.book.now c.args.ids.now c.args.cases.now (g.E.SimEngine.room c.args.engine.now) c.deref.result.now c.cases-cases.result c.years-years.result
-    c.cases-cases.ensures.value c.cases-cases.ensures.high c.years-years.ensures.value c.years-years.ensures.high c.requires.numbers c.requires.lists c.requires.room (c.deref.ensures.value ∙ c.in_ok-demands.ensures) in
-    omega (arith, c.requires.count, asked.few)
-
 pub returns-clause-filled : goal.returns-clause-filled
 returns-clause-filled g c =
     on_ok_weaker c.fill.result
@@ -34,12 +30,34 @@ pub returns-clause-keys : goal.returns-clause-keys
 returns-clause-keys g c =
     let e = g.E.SimEngine in
     let f = c.fill.ensures in
-    on_ok7 c.fill.result _ _ _ _ _ _ _ _ f.filled f.stays f.only f.many f.simulated f.told f.only_told
-    (λ filled stays only many counts told only_told.
+    on_ok5 c.fill.result _ _ _ _ _ _ f.filled f.stays f.only f.many f.worked
+    (λ filled stays only many worked.
     keys_filled c.new_codes_come_once.ensures (body_of c.args.typed.now) c.args.book.now c.args.ids.now c.args.cases.now c.deref.result.now c.args.kept.now c.fill.new.kept
-    (e.simulated c.args.engine.now) (e.simulated c.fill.new.engine) (e.tape c.args.engine.now) (e.runs c.args.engine.now) (e.runs c.fill.new.engine)
+    (e.work c.args.engine.now) (e.work c.fill.new.engine)
     c.requires.ones c.len-systems.ensures.valid c.requires.numbers c.requires.lists (c.deref.ensures.value ∙ c.in_ok-demands.ensures)
-    (record { filled = filled; stays = stays; only = only; many = many; counts = counts; told = told; only_told = only_told }))
+    (record { filled = filled; stays = stays; only = only; many = many; worked = worked }))
+
+pub returns-clause-grows : goal.returns-clause-grows
+returns-clause-grows g c =
+    let d = body_of c.args.typed.now in
+    on_either c.fill.result _ _ _ (returns-clause-keys g c) c.fill.ensures.err_kept
+    (λ keys. grows_filled d (IsKeyOf d) c.args.book.now c.args.kept.now c.fill.new.kept keys.new keys.adds)
+    (λ same. grows_same d (IsKeyOf d) c.args.book.now c.args.book.now c.args.kept.now c.fill.new.kept refl same)
+
+pub returns-in_err-demands-clause-grows : goal.returns-in_err-demands-clause-grows
+returns-in_err-demands-clause-grows g c =
+    let d = body_of c.args.typed.now in
+    grows_same d (IsKeyOf d) c.args.book.now c.args.book.now c.args.kept.now c.args.kept.now refl refl
+
+pub returns-clause-detailed : goal.returns-clause-detailed
+returns-clause-detailed g c =
+    let e = g.E.SimEngine in
+    on_either c.fill.result _ _ _ c.fill.ensures.worked c.fill.ensures.err_engine (λ worked. worked.detailed) (λ same. ap (λ x. (e.work x).detailed) same)
+
+pub returns-clause-tape : goal.returns-clause-tape
+returns-clause-tape g c =
+    let e = g.E.SimEngine in
+    on_either c.fill.result _ _ _ c.fill.ensures.worked c.fill.ensures.err_engine (λ worked. worked.tape) (λ same. ap (λ x. (e.work x).tape) same)
 
 pub returns-clause-few : goal.returns-clause-few
 returns-clause-few g c =

@@ -14,6 +14,6 @@ returns-clause-told g c =
     let accepted = report_accepted c.reports_read_back.ensures c.solutions_are_certified.ensures c.readings_are_one.ensures d c.args.case report c.args.lists.now
     c.years-years.ensures.valid.faultless c.requires.high c.requires.lists is.report width is.table is.in_form is.printable in
     on_ok_weaker c.write_case.result
-    (λ text. case_told d c.args.case report c.args.text.now.items c.write_case.new.text.items (e.detailed c.args.engine.now) (e.detailed c.report_case.new.engine)
+    (λ text. case_told d c.args.case report c.args.text.now.items c.write_case.new.text.items (e.work c.args.engine.now).detailed (e.work c.report_case.new.engine).detailed
     is.report accepted text is.detailed)
     c.write_case.ensures.appended

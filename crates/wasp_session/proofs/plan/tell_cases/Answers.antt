@@ -1,6 +1,7 @@
-use Rattle.std.proofs.Common.{◌∙◌, arith}
+use Rattle.std.proofs.Common.{arith}
 use Rattle.deck_lines.specs.Deck.{body_of}
 use Rattle.wasp_session.proofs.CaseSteps.{cases_more}
+use Rattle.wasp_session.proofs.WorkSteps.{details_then}
 use Rattle.wasp_session.proofs.plan.tell_cases.Goals as goal
 
 pub loop-c-preserved : goal.loop-c-preserved
@@ -10,11 +11,8 @@ loop-c-preserved g c =
     let one = c.in_ok-tell_case.ensures in
     record {
       told = cases_more (body_of c.args.typed.now) c.loop-c.c c.args.text.now.items c.loop-c.text.items c.tell_case.new.text.items
-          (e.detailed c.args.engine.now) (e.detailed c.loop-c.engine) (e.detailed c.tell_case.new.engine) before.told one.told;
-      few = omega (arith, before.few, one.few);
+          (e.work c.args.engine.now).detailed (e.work c.loop-c.engine).detailed (e.work c.tell_case.new.engine).detailed before.told one.told;
       cells_stay = omega (arith, before.cells_stay, one.cells_stay);
       units_stay = omega (arith, before.units_stay, one.units_stay);
-      simulated = one.simulated ∙ before.simulated;
-      runs = one.runs ∙ before.runs;
-      tape = one.tape ∙ before.tape;
+      work = details_then (e.work c.args.engine.now) (e.work c.loop-c.engine) (e.work c.tell_case.new.engine) before.work one.work;
     }

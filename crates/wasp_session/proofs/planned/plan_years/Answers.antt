@@ -14,6 +14,7 @@ use Rattle.sim_engine.specs.Row.{row_of}
 use Rattle.wasp_session.specs.Case.{IsYearOf}
 use Rattle.wasp_session.proofs.PlanSteps.{before_at, entry_is, grows_is, last_of, length_is, row_is, years_more}
 use Rattle.wasp_session.proofs.YearSteps.{before_more, configs_more, last_is, number_within, placed_in, read_at, year_place, year_room_is, year_system_is, years_long}
+use Rattle.wasp_session.proofs.WorkSteps.{details_then, raised_more}
 use Rattle.year_system.specs.System.{System}
 use Rattle.wasp_session.proofs.planned.plan_years.Goals as goal
 
@@ -85,6 +86,7 @@ plan_year-requires-clause-room g c κs w =
 pub loop-k-preserved : goal.loop-k-preserved
 loop-k-preserved g c =
     let d = body_of c.args.typed.now in
+    let e = g.E.SimEngine in
     let t = c.args.table.now in
     let l = c.loop-k in
     let k = l.k in
@@ -112,10 +114,8 @@ loop-k-preserved g c =
       wide = All-push (HasWidths (greatest d)) ys y l.invariant.wide c.in_ok-plan_year.ensures.widths;
       printable = All-push IsPrintableYear ys y l.invariant.printable c.in_ok-plan_year.ensures.printable;
       fits = subst (Fits t.economy) (here ∙ sym next) entry.fits;
-      detailed = omega (arith, c.in_ok-plan_year.ensures.detailed, l.invariant.detailed);
+      detailed = raised_more k (e.work c.args.engine.now).detailed (e.work l.engine).detailed (e.work c.plan_year.new.engine).detailed l.invariant.detailed c.in_ok-plan_year.ensures.detailed;
       cells_stay = omega (arith, c.plan_year.ensures.cells_stay, l.invariant.cells_stay);
       units_stay = omega (arith, c.plan_year.ensures.units_stay, l.invariant.units_stay);
-      simulated = c.plan_year.ensures.simulated ∙ l.invariant.simulated;
-      runs = c.plan_year.ensures.runs ∙ l.invariant.runs;
-      tape = c.plan_year.ensures.tape ∙ l.invariant.tape;
+      work = details_then (e.work c.args.engine.now) (e.work l.engine) (e.work c.plan_year.new.engine) l.invariant.work c.plan_year.ensures.work;
     })

@@ -1,4 +1,4 @@
-use Rattle.std.proofs.Common.{◌≡◌, ◌+◌, ◌≤◌, All, map, take}
+use Rattle.std.proofs.Common.{◌≡◌, ◌≤◌, All, map, take}
 use Rattle.cost_terms.specs.Cost.{nothing_built}
 use Rattle.cost_terms.specs.CostData.{Fits}
 use Rattle.checked_deck.specs.Economy.{costs}
@@ -7,7 +7,9 @@ use Rattle.deck_lines.specs.Deck.{body_of}
 use Rattle.report_text.specs.ReadBack.{IsPrintableYear}
 use Rattle.report_text.specs.Report.{HasWidths}
 use Rattle.report_text.specs.declared.data.PlanYear.{PlanYear}
+use Rattle.sim_engine.specs.Engine.{raised}
 use Rattle.wasp_session.specs.Case.{AreYearsFrom}
+use Rattle.wasp_session.specs.Steps.{OnlyDetails}
 use Rattle.wasp_session.proofs.PlanSteps.{before_at, last_of}
 use Rattle.wasp_session.proofs.planned.plan_years.Given as goal
 
@@ -22,10 +24,8 @@ invariant-loop-k g l =
       wide : All (HasWidths (greatest (body_of l.typed))) l.years.items;
       printable : All IsPrintableYear l.years.items;
       fits : Fits l.table.economy l.before;
-      detailed : e.detailed l.engine ≡ e.detailed l.initial.engine + l.k;
+      detailed : (e.work l.engine).detailed ≡ raised l.k (e.work l.initial.engine).detailed;
       cells_stay : (e.room l.initial.engine).cells ≤ (e.room l.engine).cells;
       units_stay : (e.room l.initial.engine).units ≤ (e.room l.engine).units;
-      simulated : e.simulated l.engine ≡ e.simulated l.initial.engine;
-      runs : e.runs l.engine ≡ e.runs l.initial.engine;
-      tape : e.tape l.engine ≡ e.tape l.initial.engine;
+      work : OnlyDetails (e.work l.initial.engine) (e.work l.engine);
     }
