@@ -1,8 +1,8 @@
 -- What is true of the demands of all cases and years, and which keys they are.
-use Rattle.std.proofs.Common.{◌≡◌, ◌∙◌, ap, sym, refl, subst, ℕ, zero, suc, ◌+◌, ◌-◌, ◌*◌, ◌<◌, ◌≤◌, ⊎_elim, eqb, Bool, true, false, cond, not, List, [], ◌∷◌, ◌++◌, All, Contains, Some, filter, length, map, min, slice_get, slice_index, is_none, arith}
+use Rattle.std.proofs.Common.{◌≡◌, ◌∙◌, ap, sym, refl, subst, ℕ, zero, suc, ◌+◌, ◌-◌, ◌*◌, ◌<◌, ◌≤◌, ⊎_elim, eqb, Bool, true, false, cond, not, List, [], ◌∷◌, All, Contains, Some, filter, length, map, min, slice_get, slice_index, is_none, arith}
 use Rattle.std.specs.List.{flat_map, zip}
 use Rattle.std.proofs.lemmas.List.{length-append, length-map}
-use Rattle.std.proofs.lemmas.List.Elements.{All-append, All-cons, All-contains, All-contains_itself, All-head, All-map, All-nil, All-tail, All-weaker, Contains-append_left, Contains-append_right}
+use Rattle.std.proofs.lemmas.List.Elements.{All-cons, All-contains, All-contains_itself, All-head, All-map, All-nil, All-tail, All-weaker, Contains-append_left, Contains-append_right}
 use Rattle.std.proofs.lemmas.Option.{same_Some, slice_get_within}
 use Rattle.std.proofs.lemmas.Slice.Zip.{length-zip}
 use Rattle.board_core.specs.declared.row.KeptRow.{KeptRow}
@@ -12,24 +12,15 @@ use Rattle.sim_engine.specs.Engine.{Room, Run}
 use Rattle.sim_sweep.specs.Demands.{HasRoomFor, IsDemand, first_demands, new_demands, run_in}
 use Rattle.sim_sweep.specs.Kept.{words_in}
 use Rattle.sim_sweep.specs.declared.demand.Demand.{Demand}
+use Rattle.wasp_fixed.proofs.Lists.{all_flat, all_split, contains_tail, first_or_rest}
 use Rattle.wasp_session.proofs.EachSteps.{at_place, in_place}
-use Rattle.wasp_session.proofs.KeySteps.{in_cases, in_none, in_rest}
+use Rattle.wasp_session.proofs.KeySteps.{in_none}
 use Rattle.wasp_session.specs.Keys.{IsKeyOf}
 use Rattle.wasp_session.specs.Steps.{AreCaseLists, AreYearLists, FitBook, HasYearRoom, HasYears, IsYearList, all_demands, case_demands, demands_of, year_demands}
 use Rattle.year_system.specs.Code.{code_of}
 use Rattle.year_system.specs.System.{Fits, System}
 
 -- ---- lists of lists
-
-pub all_flat : {X Y : Type 0} (P : Y → Type 0) (f : X → List Y) (xs : List X) → All (λ x. All P (f x)) xs → All P (flat_map f xs)
-all_flat {X} {Y} P f [] all = All-nil P
-all_flat {X} {Y} P f (x ∷ xs) all = All-append P (f x) (flat_map f xs) (All-head (λ (z : X). All P (f z)) x xs all) (all_flat P f xs (All-tail (λ (z : X). All P (f z)) x xs all))
-
-all_split : {X : Type 0} (P : X → Type 0) (xs ys : List X) → All P (xs ++ ys) → All P xs × All P ys
-all_split P [] ys all = (All-nil P, all)
-all_split P (x ∷ xs) ys all =
-    let rest = all_split P xs ys (All-tail P x (xs ++ ys) all) in
-    (All-cons P x xs (All-head P x (xs ++ ys) all) rest.0, rest.1)
 
 pub flat_all : {X Y : Type 0} (P : Y → Type 0) (f : X → List Y) (xs : List X) → All P (flat_map f xs) → All (λ x. All P (f x)) xs
 flat_all {X} {Y} P f [] all = All-nil (λ (z : X). All P (f z))
@@ -52,17 +43,17 @@ in_flat f (z ∷ xs) x y has inside =
     ⊎_elim
     (λ here. Contains-append_left (f z) (flat_map f xs) y (subst (λ w. Contains (f w) y) (sym here) inside))
     (λ rest. Contains-append_right (f z) (flat_map f xs) y (in_flat f xs x y rest inside))
-    (in_cases z xs x has)
+    (first_or_rest z xs x has)
 
 pub in_zip : {X : Type 0} (ids : List ℕ) (xs : List X) (k id : ℕ) (x : X) → slice_get ids k ≡ Some id → slice_get xs k ≡ Some x → Contains (zip ids xs) (id, x)
 in_zip [] xs k id x a b = cc
 in_zip (i ∷ is) [] k id x a b = cc
 in_zip (i ∷ is) (y ∷ xs) zero id x a b = (0, omega arith, ap (λ n. (n, y)) (same_Some _ _ a) ∙ ap (λ z. (id, z)) (same_Some _ _ b))
-in_zip (i ∷ is) (y ∷ xs) (suc k) id x a b = in_rest (i, y) (zip is xs) (id, x) (in_zip is xs k id x a b)
+in_zip (i ∷ is) (y ∷ xs) (suc k) id x a b = contains_tail (i, y) (zip is xs) (id, x) (in_zip is xs k id x a b)
 
 pub in_map : {X Y : Type 0} (f : X → Y) (xs : List X) (x : X) → Contains xs x → Contains (map f xs) (f x)
 in_map f [] x has = absurd (in_none x has)
-in_map f (z ∷ xs) x has = ⊎_elim (λ here. (0, omega arith, ap f here)) (λ rest. in_rest (f z) (map f xs) (f x) (in_map f xs x rest)) (in_cases z xs x has)
+in_map f (z ∷ xs) x has = ⊎_elim (λ here. (0, omega arith, ap f here)) (λ rest. contains_tail (f z) (map f xs) (f x) (in_map f xs x rest)) (first_or_rest z xs x has)
 
 -- ---- demands
 

@@ -11,7 +11,8 @@ use Rattle.deck_check.specs.Readings.{Says, cases, years}
 use Rattle.sim_engine.specs.Engine.{Room, Run, Work}
 use Rattle.sim_sweep.specs.Demands.{HasRoomFor, IsDemand, IsFilled, NewCodesComeOnce, run_in}
 use Rattle.sim_sweep.specs.declared.demand.Demand.{Demand}
-use Rattle.wasp_session.proofs.AskSteps.{all_flat, all_zip, flat_all, in_flat, in_map, in_zip, length_flat, one_demand, year_all, year_is}
+use Rattle.wasp_fixed.proofs.Lists.{all_flat}
+use Rattle.wasp_session.proofs.AskSteps.{all_zip, flat_all, in_flat, in_map, in_zip, length_flat, one_demand, year_all, year_is}
 use Rattle.wasp_session.proofs.EachSteps.{at_place}
 use Rattle.wasp_session.proofs.FillKeys.{AreAsked, HasFilled, asked_simulated}
 use Rattle.wasp_session.specs.Keys.{IsCaseKeyOf}

@@ -1,18 +1,16 @@
 -- Generations one by one, and the tellings of cases.
-use Rattle.std.proofs.Common.{◌≡◌, ◌∙◌, ap, sym, refl, subst, ℕ, zero, suc, ◌+◌, List, [], ◌∷◌, ◌++◌, Option, length, map, add-one, arith}
+use Rattle.std.proofs.Common.{◌≡◌, ◌∙◌, ap, sym, refl, subst, ℕ, zero, suc, ◌+◌, List, [], ◌∷◌, ◌++◌, Option, length, add-one, arith}
 use Rattle.std.specs.List.{filter_map, range_with_len}
-use Rattle.std.proofs.lemmas.List.{length-append, length-map}
 use Rattle.std.proofs.lemmas.List.Elements.{filter_map-append}
-use Rattle.std.proofs.lemmas.List.FromFn.{length-map-range_with_len}
 use Rattle.checked_deck.specs.Systems.{system}
 use Rattle.deck_check.specs.Readings.{Says}
-use Rattle.plant_data.specs.declared.plant.Plant.{Plant}
 use Rattle.sim_engine.specs.Engine.{raised}
-use Rattle.sim_engine.specs.Generation.{generations, group_generation, plant_generation}
+use Rattle.sim_engine.specs.Generation.{generations}
 use Rattle.year_system.specs.System.{System}
 use Rattle.report_text.specs.Report.{case_text}
 use Rattle.report_text.specs.declared.data.CaseReport.{CaseReport}
 use Rattle.report_text.specs.declared.data.Generation.{Generation}
+use Rattle.sim_engine.proofs.GenerationSteps.{length-generations}
 use Rattle.wasp_session.proofs.TellSteps.{tells_then}
 use Rattle.wasp_session.specs.Accepted.{IsAccepted}
 use Rattle.wasp_session.specs.Case.{IsReportOf, generation_at, generations_of}
@@ -50,22 +48,11 @@ cases_more d c a b e x y z before one =
     let last = subst (λ n. Tells (IsCaseTold d n) b e y z) (add-one c) one in
     subst (λ n. Tells (AreCasesTold d n) a e x z) (sym (add-one c)) (tells_then (AreCasesTold d c) (IsCaseTold d (suc c)) a b e x y z before last)
 
--- how many generations there are
-length_generations : (s : System) (counts : List ℕ) → length (generations s counts) ≡ length s.existing + length s.thermal + length s.groups
-length_generations s counts =
-    let plants : List ℕ = map (λ (p : Plant). plant_generation s counts p.number) (s.existing ++ s.thermal) in
-    let waters : List ℕ = map (group_generation s counts) (range_with_len 0 (length s.groups)) in
-    let all = length-append plants waters in
-    let first = length-map (s.existing ++ s.thermal) (λ (p : Plant). plant_generation s counts p.number) in
-    let both = length-append s.existing s.thermal in
-    let second = length-map-range_with_len (group_generation s counts) 0 (length s.groups) in
-    omega (arith, all, first, both, second)
-
 -- those of a year
 pub generations_are : (d : Says) (t : ℕ) (counts : List ℕ) (s : System) (energies : List ℕ) (gs : List Generation) → s ≡ system d t → energies ≡ generations s counts
     → gs ≡ filter_map (generation_at d s counts energies) (range_with_len 0 (length energies)) → gs ≡ generations_of d t counts
 generations_are d t counts s energies gs same are is =
-    let n : length energies ≡ length s.existing + length s.thermal + length s.groups = ap length are ∙ length_generations s counts in
+    let n : length energies ≡ length s.existing + length s.thermal + length s.groups = ap length are ∙ length-generations s counts in
     is ∙ ap (λ (k : ℕ). filter_map (generation_at d s counts energies) (range_with_len 0 k)) n
     ∙ ap (λ (es : List ℕ). filter_map (generation_at d s counts es) (range_with_len 0 (length s.existing + length s.thermal + length s.groups))) are
     ∙ ap (λ (z : System). filter_map (generation_at d z counts (generations z counts)) (range_with_len 0 (length z.existing + length z.thermal + length z.groups))) same

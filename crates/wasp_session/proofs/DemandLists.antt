@@ -1,31 +1,12 @@
 -- Demands of one configuration more, and of one year more.
-use Rattle.std.proofs.Common.{◌≡◌, ◌∙◌, ap, sym, ℕ, ◌+◌, ◌<◌, List, [], ◌∷◌, ◌++◌, Option, Some, length, take, map, get_or, slice_get, append_assoc, arith}
+use Rattle.std.proofs.Common.{◌≡◌, ◌∙◌, ap, sym, ℕ, ◌+◌, ◌<◌, List, [], ◌∷◌, ◌++◌, length, take, map, get_or, append_assoc, arith}
 use Rattle.std.specs.List.{flat_map, zip}
 use Rattle.std.proofs.lemmas.Grind.{flat_map-append}
 use Rattle.std.proofs.lemmas.List.{append-nil, map-append, take_all, take_more}
 use Rattle.std.proofs.lemmas.Slice.Zip.{get_or-zip, length-zip}
 use Rattle.sim_sweep.specs.declared.demand.Demand.{Demand}
-use Rattle.wasp_session.specs.Steps.{demands_of, year_demands}
-use Rattle.year_system.specs.Code.{code_of}
+use Rattle.wasp_session.specs.Steps.{year_demands}
 use Rattle.year_system.specs.System.{System}
-
-demands_more : (o : Option System) (s : System) (id : ℕ) (xs : List (List ℕ)) (x : List ℕ) → o ≡ Some s
-    → demands_of id (xs ++ x ∷ []) o ≡ demands_of id xs o ++ record { code = code_of id s x; id = id; config = x } ∷ []
-demands_more o s id xs x e = rw e (map-append (λ (y : List ℕ). record { code = code_of id s y; id = id; config = y }) xs (x ∷ []))
-
--- one configuration more
-pub push_step : (book : List System) (s : System) (id code i : ℕ) (configs : List (List ℕ)) (x : List ℕ) (old before : List Demand)
-    → slice_get book id ≡ Some s → code ≡ code_of id s x → i < length configs → x ≡ get_or configs i x
-    → before ≡ old ++ year_demands book (id, take i configs)
-    → before ++ record { code = code; id = id; config = x } ∷ [] ≡ old ++ year_demands book (id, take (i + 1) configs)
-push_step book s id code i configs x old before at is within here so_far =
-    let one : Demand = record { code = code_of id s x; id = id; config = x } in
-    let more : take (i + 1) configs ≡ take i configs ++ x ∷ [] = take_more configs i x within ∙ ap (λ (y : List ℕ). take i configs ++ y ∷ []) (sym here) in
-    ap (λ (n : ℕ). before ++ record { code = n; id = id; config = x } ∷ []) is
-    ∙ ap (λ (ds : List Demand). ds ++ one ∷ []) so_far
-    ∙ append_assoc old (year_demands book (id, take i configs)) (one ∷ [])
-    ∙ ap (λ (ds : List Demand). old ++ ds) (sym (demands_more (slice_get book id) s id (take i configs) x at))
-    ∙ ap (λ (cs : List (List ℕ)). old ++ year_demands book (id, cs)) (sym more)
 
 -- one year more
 pub years_step : (book : List System) (ids : List ℕ) (lists : List (List (List ℕ))) (k id : ℕ) (configs : List (List ℕ)) (old before after : List Demand)

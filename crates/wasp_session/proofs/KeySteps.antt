@@ -1,9 +1,9 @@
 -- The keys of the rows that are kept: those from before, and those of the new demands.
-use Rattle.std.proofs.Common.{◌≡◌, ◌≢◌, ◌∙◌, ap, sym, refl, subst, ℕ, zero, suc, ◌+◌, ◌⊎◌, inl, inr, ⊎_elim, eqb, Bool, true, false, not, List, [], ◌∷◌, ◌++◌, All, Contains, IsSome, IsTrue, Option, None, Some, filter, length, slice_get, is_none, is_some, arith}
+use Rattle.std.proofs.Common.{◌≡◌, ◌≢◌, ◌∙◌, ap, sym, refl, subst, ℕ, ◌+◌, ◌⊎◌, inl, inr, ⊎_elim, eqb, Bool, true, false, List, [], ◌∷◌, ◌++◌, All, Contains, IsSome, IsTrue, Option, None, Some, filter, length, slice_get, is_none, is_some, arith}
 use mathlib.Core.Bool.{false≢true}
 use Rattle.std.specs.List.{AllByRecursion, AllPairs, IsDistinct, filter_map}
 use Rattle.std.proofs.lemmas.Bool.Decides.{nat_tests}
-use Rattle.std.proofs.lemmas.List.Elements.{All-cons, All-contains, All-contains_itself, All-filter, All-head, All-nil, All-tail, All-weaker, Contains-append_cases, Contains-append_left, Contains-append_right, filter_map-append}
+use Rattle.std.proofs.lemmas.List.Elements.{All-cons, All-contains, All-contains_itself, All-head, All-nil, All-tail, All-weaker, Contains-append_cases, Contains-append_left, Contains-append_right, filter_map-append}
 use Rattle.std.proofs.lemmas.List.Kept.{AllPairs-cons}
 use Rattle.std.proofs.lemmas.Option.{same_Some}
 use Rattle.board_core.specs.declared.row.KeptRow.{KeptRow}
@@ -13,6 +13,8 @@ use Rattle.sim_engine.specs.Row.{row_of}
 use Rattle.sim_sweep.specs.Demands.{IsDemand, IsFilled, NewCodesComeOnce, codes_of, first_demands, is_demanded, new_demands, run_in, runs_of}
 use Rattle.sim_sweep.specs.Kept.{AreDue, row_words, words_in}
 use Rattle.sim_sweep.specs.declared.demand.Demand.{Demand}
+use Rattle.wasp_fixed.proofs.Lists.{contains_tail, first_or_rest, slice_get_front}
+use Rattle.sim_sweep.proofs.RunLaws.{all_new}
 use Rattle.wasp_session.specs.State.{AreOnes, IsKeptKey}
 use Rattle.wasp_session.specs.Steps.{AddsKeys}
 use Rattle.year_system.specs.Code.{IsCode, code_of}
@@ -21,23 +23,8 @@ use Rattle.year_system.proofs.CodeParts.{one_key, same_system}
 
 -- ---- lists
 
-pub in_cases : {X : Type 0} (y : X) (xs : List X) (x : X) → Contains (y ∷ xs) x → (y ≡ x) ⊎ Contains xs x
-in_cases y xs x (zero, b, e) = inl e
-in_cases y xs x (suc k, b, e) = inr (k, omega (arith, b), e)
-
-pub in_rest : {X : Type 0} (y : X) (xs : List X) (x : X) → Contains xs x → Contains (y ∷ xs) x
-in_rest y xs x (k, b, e) = (suc k, omega (arith, b), e)
-
 pub in_none : {X : Type 0} (x : X) → Contains [] x → ⊥
 in_none x (k, b, e) = absurd (omega (arith, b))
-
--- a property of the demands is one of the first, and of the new ones
-all_first : (P : Demand → Type 0) (ds : List Demand) → All P ds → All P (first_demands ds)
-all_first P [] all = All-nil P
-all_first P (d ∷ ds) all = All-cons P d _ (All-head P d ds all) (All-filter (λ (e : Demand). not (eqb d.code e.code)) P (first_demands ds) (all_first P ds (All-tail P d ds all)))
-
-pub all_new : (P : Demand → Type 0) (rows : List KeptRow) (ds : List Demand) → All P ds → All P (new_demands rows ds)
-all_new P rows ds all = All-filter (λ (d : Demand). is_none (words_in rows d.code)) P (first_demands ds) (all_first P ds all)
 
 -- what a filter keeps passes it
 pass_one : (p : Demand → Bool) (d : Demand) (ds : List Demand) (b : Bool) → p d ≡ b → All (λ e. p e ≡ true) (filter p ds) → All (λ e. p e ≡ true) (filter p (d ∷ ds))
@@ -55,7 +42,7 @@ new_not_kept rows ds = kept_pass (λ d. is_none (words_in rows d.code)) (first_d
 
 one_run : (o : Option Run) (d : Demand) (key : Run) → Contains (filter_map (λ (e : Demand). o) (d ∷ [])) key → o ≡ Some key
 one_run None d key has = absurd (in_none key has)
-one_run (Some r) d key has = ⊎_elim (λ e. ap Some e) (λ rest. absurd (in_none key rest)) (in_cases r [] key has)
+one_run (Some r) d key has = ⊎_elim (λ e. ap Some e) (λ rest. absurd (in_none key rest)) (first_or_rest r [] key has)
 
 run_one : (o : Option Run) (d : Demand) (key : Run) → o ≡ Some key → Contains (filter_map (λ (e : Demand). o) (d ∷ [])) key
 run_one o d key is = rw is (0, omega arith, refl)
@@ -71,7 +58,7 @@ from_runs book [] key has = absurd (in_none key has)
 from_runs book (d ∷ ds) key has =
     ⊎_elim
     (λ one. record { demand = d; has = (0, omega arith, refl); is = one_run (run_in book d) d key one })
-    (λ rest. let r = from_runs book ds key rest in record { demand = r.demand; has = in_rest d ds r.demand r.has; is = r.is })
+    (λ rest. let r = from_runs book ds key rest in record { demand = r.demand; has = contains_tail d ds r.demand r.has; is = r.is })
     (Contains-append_cases (filter_map (run_in book) (d ∷ [])) (runs_of book ds) key (subst (λ rs. Contains rs key) (filter_map-append (run_in book) (d ∷ []) ds) has))
 
 pub to_runs : (book : List System) (ds : List Demand) (d : Demand) (key : Run) → Contains ds d → run_in book d ≡ Some key → Contains (runs_of book ds) key
@@ -81,7 +68,7 @@ to_runs book (e ∷ ds) d key has is =
     (⊎_elim
     (λ here. Contains-append_left (filter_map (run_in book) (e ∷ [])) (runs_of book ds) key (run_one (run_in book e) e key (ap (run_in book) here ∙ is)))
     (λ rest. Contains-append_right (filter_map (run_in book) (e ∷ [])) (runs_of book ds) key (to_runs book ds d key rest is))
-    (in_cases e ds d has))
+    (first_or_rest e ds d has))
 
 run_is : (book : List System) (d : Demand) → (h : IsDemand book d) → run_in book d ≡ Some (h.system, d.config)
 run_is book d h = rw h.at refl
@@ -111,7 +98,7 @@ run_fits book d key h is = subst (λ (r : Run). Fits r.0 r.1) (same_Some _ _ (sy
 -- distinct codes are those of distinct runs
 apart_codes : (n : ℕ) (ds : List Demand) (e : Demand) → AllByRecursion (λ y. eqb n y ≡ false) (codes_of ds) → Contains ds e → eqb n e.code ≡ false
 apart_codes n [] e all has = absurd (in_none e has)
-apart_codes n (d ∷ ds) e all has = ⊎_elim (λ here. subst (λ (z : Demand). eqb n z.code ≡ false) here all.0) (λ rest. apart_codes n ds e all.1 rest) (in_cases d ds e has)
+apart_codes n (d ∷ ds) e all has = ⊎_elim (λ here. subst (λ (z : Demand). eqb n z.code ≡ false) here all.0) (λ rest. apart_codes n ds e all.1 rest) (first_or_rest d ds e has)
 
 pub runs_apart : (book : List System) (ds : List Demand) → AreOnes book → All (IsDemand book) ds → IsDistinct eqb (codes_of ds) → AllPairs (λ one other. one ≢ other) (runs_of book ds)
 unfolding IsDistinct
@@ -132,7 +119,7 @@ runs_apart book (d ∷ ds) ones all apart =
 
 code_in : (ds : List Demand) (code : ℕ) → Contains (codes_of ds) code → (d : Demand) × Contains ds d × (d.code ≡ code)
 code_in [] code has = absurd (in_none code has)
-code_in (d ∷ ds) code has = ⊎_elim (λ here. (d, (0, omega arith, refl), here)) (λ rest. let r = code_in ds code rest in (r.0, in_rest d ds r.0 r.1, r.2)) (in_cases d.code (codes_of ds) code has)
+code_in (d ∷ ds) code has = ⊎_elim (λ here. (d, (0, omega arith, refl), here)) (λ rest. let r = code_in ds code rest in (r.0, contains_tail d ds r.0 r.1, r.2)) (first_or_rest d.code (codes_of ds) code has)
 
 -- a key whose row is kept in the end was kept before, or is new
 pub kept_or_new : NewCodesComeOnce → (book : List System) (kept now : List KeptRow) (ds : List Demand) (key : Run) → All IsSystem book → All (IsDemand book) ds
@@ -208,19 +195,14 @@ adds_keys come_once demanded book kept now ds ones systems demands filled stays 
 
 -- ---- a book that has grown
 
-front : {X : Type 0} (xs ys : List X) (k : ℕ) (x : X) → slice_get xs k ≡ Some x → slice_get (xs ++ ys) k ≡ Some x
-front [] ys k x at = cc
-front (y ∷ xs) ys zero x at = at
-front (y ∷ xs) ys (suc k) x at = front xs ys k x at
-
 pub to_new : (book more : List System) (kept : List KeptRow) (key : Run) → IsKeptKey book kept key → IsKeptKey (book ++ more) kept key
-to_new book more kept key k = record { id = k.id; at = front book more k.id key.0 k.at; fits = k.fits; row = k.row }
+to_new book more kept key k = record { id = k.id; at = slice_get_front book more k.id key.0 k.at; fits = k.fits; row = k.row }
 
 pub to_old : (book more : List System) (kept : List KeptRow) (key : Run) → All IsSystem (book ++ more) → AreDue book kept → IsKeptKey (book ++ more) kept key → IsKeptKey book kept key
 to_old book more kept key systems due k =
     let code = code_of k.id key.0 key.1 in
     let is = due code (row_words (row_of key.0 key.1)) k.row in
-    let its : IsCode (book ++ more) code = record { id = is.key.id; system = is.key.system; counts = is.key.counts; at = front book more is.key.id is.key.system is.key.at; fits = is.key.fits; is = is.key.is } in
+    let its : IsCode (book ++ more) code = record { id = is.key.id; system = is.key.system; counts = is.key.counts; at = slice_get_front book more is.key.id is.key.system is.key.at; fits = is.key.fits; is = is.key.is } in
     let own : IsCode (book ++ more) code = record { id = k.id; system = key.0; counts = key.1; at = k.at; fits = k.fits; is = refl } in
     let one = one_key (book ++ more) code systems its own in
     let system : is.key.system ≡ key.0 = same_system (book ++ more) is.key.id k.id is.key.system key.0 its.at k.at one.0 in

@@ -12,20 +12,15 @@ use Rattle.plant_data.specs.Tunnels.{IsTunnelOf}
 use Rattle.plant_data.specs.declared.row.Margin.{Margin}
 use Rattle.plant_data.specs.declared.row.Tunnel.{Tunnel}
 use Rattle.sim_engine.specs.Engine.{Room}
-use Rattle.tunnel_configs.specs.Listed.{IsInTunnel, IsListing, box_size}
+use Rattle.tunnel_configs.specs.Listed.{IsListing, box_size}
+use Rattle.wasp_fixed.proofs.Lists.{slice_get_front}
+use Rattle.tunnel_configs.proofs.Sizes.{in_tunnel_fits}
 use Rattle.wasp_session.specs.State.{AreOnes}
 use Rattle.report_text.specs.declared.refusals.Refusal.{Refusal}
 use Rattle.wasp_session.specs.Listings.{IsFirstOver, IsOf, IsOver, IsOverIn, IsWithin, IsFairListing}
 use Rattle.wasp_session.specs.Steps.{AreNumbers, AreSystems, AreYearLists, EachAt, HasGrown, HasRoom, HasYearRoom, HasYears, IsYearList, IsYearSystem}
 use Rattle.wasp_session.proofs.EachSteps.{at_place, each_more}
 use Rattle.year_system.specs.System.{Fits, System, cells, greatest, unit_limit}
-
--- what lies in a tunnel fits
-in_tunnel_fits : (s : System) (n : Tunnel) (counts : List ℕ) → IsTunnelOf (greatest s) n → IsInTunnel n counts → Fits s counts
-in_tunnel_fits s n counts h b = record {
-  width = b.width ∙ h.least;
-  most = λ k l. omega (arith, (b.each k l).1, h.most k);
-}
 
 listing_is : (d : Says) (c t : ℕ) (s : System) (n : Tunnel) (m : Margin) (configs : List (List ℕ)) → s ≡ system d t → n ≡ tunnel d c t → m ≡ margin d c t
     → IsListing s n m configs → IsListing (system d t) (tunnel d c t) (margin d c t) configs
@@ -57,11 +52,6 @@ pub room_all : (systems : List System) (i : ℕ) (cells_room units_room : ℕ) �
 room_all systems i cells_room units_room end all = subst (All (HasRoom cells_room units_room)) (take_all i systems (omega (arith, end))) all
 
 -- ---- the book
-
-pub front : {X : Type 0} (xs ys : List X) (k : ℕ) (x : X) → slice_get xs k ≡ Some x → slice_get (xs ++ ys) k ≡ Some x
-front [] ys k x at = cc
-front (y ∷ xs) ys zero x at = at
-front (y ∷ xs) ys (suc k) x at = front xs ys k x at
 
 back : {X : Type 0} (xs ys : List X) (k : ℕ) → k < length xs → slice_get (xs ++ ys) k ≡ slice_get xs k
 back [] ys k h = absurd (omega (arith, h))
@@ -115,7 +105,7 @@ ones_more book now s id is ones = ⊎_elim
 stays : (book now : List System) (s t : System) (id k : ℕ) → IsInterned book now s id → slice_get book k ≡ Some t → slice_get now k ≡ Some t
 stays book now s t id k is at = ⊎_elim
     (λ old. ap (λ (z : List System). slice_get z k) (is.found old) ∙ at)
-    (λ new. ap (λ (z : List System). slice_get z k) (is.added new) ∙ front book (s ∷ []) k t at)
+    (λ new. ap (λ (z : List System). slice_get z k) (is.added new) ∙ slice_get_front book (s ∷ []) k t at)
     (cases_lt id (length book))
 
 pub numbers_more : (book now systems : List System) (ids : List ℕ) (s : System) (id : ℕ) → IsInterned book now s id → length ids < length systems → slice_get systems (length ids) ≡ Some s

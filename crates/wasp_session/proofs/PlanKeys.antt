@@ -4,7 +4,7 @@ use Rattle.std.specs.Prelude.{OnErr, OnOk}
 use Rattle.std.proofs.lemmas.List.{append-nil}
 use Rattle.board_core.specs.declared.row.KeptRow.{KeptRow}
 use Rattle.sim_engine.specs.Engine.{Run, Work}
-use Rattle.sim_sweep.specs.Kept.{AreDue, DueRowsStand}
+use Rattle.sim_sweep.specs.Kept.{AreDue}
 use Rattle.wasp_session.proofs.FollowSteps.{adds_none}
 use Rattle.wasp_session.proofs.KeySteps.{grown_adds}
 use Rattle.wasp_session.specs.Steps.{HasGrown, OnlyDetails, Simulates}
@@ -55,10 +55,6 @@ simulates_since demanded book now systems kept kept_now before ready filled afte
       tape = all.tape;
       gains = all.gains;
     }
-
--- rows that are due stay so in a book that has grown
-pub due_grown : DueRowsStand → (book now systems : List System) (kept : List KeptRow) → HasGrown book now systems → AreDue book kept → AreDue now kept
-due_grown stand book now systems kept grown due = subst (λ (b : List System). AreDue b kept) (sym grown.is) (stand book grown.more kept due)
 
 -- ---- what is true after a call, by what it answers
 

@@ -2,10 +2,9 @@
 use Rattle.std.proofs.Common.{◌≡◌, sym, subst, ℕ, ◌+◌, ◌^◌, ◌<◌, ◌≤◌, true, ◌&&◌, List, [], ◌∷◌, ◌++◌, All, length, arith}
 use Rattle.std.specs.Prelude.{IsTrue, nat_le}
 use Rattle.std.specs.List.{list_all}
-use Rattle.std.proofs.lemmas.Bool.{leb-true}
+use Rattle.std.proofs.lemmas.Bool.{and_parts, leb-true}
 use Rattle.std.proofs.lemmas.Bool.Decides.{nat_tests}
 use Rattle.std.proofs.lemmas.List.Elements.{All-cons, All-nil, All-push}
-use Rattle.deck_lines.proofs.Ranges.{both}
 use Rattle.deck_lines.specs.Statements.{is_name, is_name_byte}
 use Rattle.plant_data.specs.Rows.{IsRow}
 use Rattle.report_text.specs.ReadBack.{ArePrintable, id_number, IsPrintableGeneration, IsPrintableName, IsPrintableYear}
@@ -20,13 +19,13 @@ byte_printable b h = (grind (arith, nat_tests), grind (arith, nat_tests))
 bytes_printable : (bs : List ℕ) → list_all is_name_byte bs ≡ true → All (λ (b : ℕ). (33 ≤ b) × (b ≤ 126)) bs
 bytes_printable [] h = All-nil (λ (b : ℕ). (33 ≤ b) × (b ≤ 126))
 bytes_printable (b ∷ bs) h =
-    let p = both (is_name_byte b) (list_all is_name_byte bs) h in
+    let p = and_parts (is_name_byte b) (list_all is_name_byte bs) h in
     All-cons (λ (c : ℕ). (33 ≤ c) × (c ≤ 126)) b bs (byte_printable b p.0) (bytes_printable bs p.1)
 
 pub name_printable : (name : List ℕ) → IsTrue (is_name name) → IsPrintableName name
 name_printable name h =
-    let p = both (nat_le 1 (length name) && nat_le (length name) 8) (list_all is_name_byte name) h in
-    let q = both (nat_le 1 (length name)) (nat_le (length name) 8) p.0 in
+    let p = and_parts (nat_le 1 (length name) && nat_le (length name) 8) (list_all is_name_byte name) h in
+    let q = and_parts (nat_le 1 (length name)) (nat_le (length name) 8) p.0 in
     record { some = leb-true 1 (length name) q.0; short = leb-true (length name) 8 q.1; bytes = bytes_printable name p.1 }
 
 -- ---- numbers

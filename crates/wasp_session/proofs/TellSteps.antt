@@ -28,10 +28,6 @@ tells_then One Other a b c x y z one other = record {
   chosen = other.chosen ∙ ap (raised other.told.chosen) one.chosen ∙ raised_then one.told.chosen other.told.chosen x;
 }
 
--- nothing is told
-pub tells_nothing : (a : List ℕ) (x : ℕ) → Tells (λ t. t ≡ nothing) a a x x
-tells_nothing a x = record { told = nothing; is = refl; text = sym (append-nil a); chosen = refl }
-
 -- a text without a CHOSEN line is told
 pub tells_plain : (a b text : List ℕ) (x : ℕ) → b ≡ a ++ text → Tells (λ t. t ≡ plain text) a b x x
 tells_plain a b text x e = record { told = plain text; is = refl; text = e; chosen = refl }

@@ -1,9 +1,8 @@
--- What an engine did over several calls, and the first of some engines.
-use Rattle.std.proofs.Common.{◌≡◌, ◌∙◌, ap, refl, sym, ℕ, suc, ◌+◌, ◌<◌, ◌≤◌, List, [], ◌∷◌, Some, add-one, length, map, slice_get, arith}
-use Rattle.std.proofs.lemmas.Option.{same_Some}
+-- What an engine did over several calls.
+use Rattle.std.proofs.Common.{◌≡◌, ◌∙◌, ap, refl, sym, ℕ, ◌+◌, List, [], add-one}
 use Rattle.board_core.specs.declared.row.KeptRow.{KeptRow}
-use Rattle.sim_engine.specs.Engine.{Run, Work, counted, raised, with_detail}
-use Rattle.sim_sweep.specs.Works.{HasWorked, first_work}
+use Rattle.sim_engine.specs.Engine.{Run, Work, counted, raised}
+use Rattle.sim_sweep.specs.Works.{HasWorked}
 use Rattle.wasp_session.specs.Steps.{OnlyDetails, Simulates}
 use Rattle.year_system.specs.System.{System}
 
@@ -12,21 +11,12 @@ use Rattle.year_system.specs.System.{System}
 pub details_none : (w : Work) → OnlyDetails w w
 details_none w = refl
 
-pub details_one : (before now : Work) → now ≡ with_detail before → OnlyDetails before now
-details_one before now is = is ∙ ap (λ (n : ℕ). record before { detailed = n }) (sym (ap (λ (w : Work). w.detailed) is))
-
 pub details_then : (a b c : Work) → OnlyDetails a b → OnlyDetails b c → OnlyDetails a c
 details_then a b c one other = other ∙ ap (λ (w : Work). record w { detailed = c.detailed }) one
 
 -- a count and one more
 pub raised_more : (k start before now : ℕ) → before ≡ raised k start → now ≡ counted before → now ≡ raised (k + 1) start
 raised_more k start before now so_far one = one ∙ ap counted so_far ∙ ap (λ (n : ℕ). raised n start) (sym (add-one k))
-
--- ---- the first engine
-
-pub first_is : {X : Type 0} (work : X → Work) (xs : List X) (x : X) → slice_get xs 0 ≡ Some x → first_work (map work xs) ≡ work x
-first_is work [] x at = cc
-first_is work (y ∷ xs) x at = ap work (same_Some _ _ at)
 
 -- ---- what it did at a line, by what is told of its keys and of its details
 

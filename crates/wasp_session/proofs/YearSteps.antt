@@ -1,33 +1,19 @@
 -- A year of a chosen plan: what a run writes, the system of the year, and what fits it.
-use Rattle.std.proofs.Common.{◌≡◌, ◌∙◌, ap, sym, subst, ℕ, ◌+◌, ◌<◌, ◌≤◌, List, [], ◌∷◌, ◌++◌, Some, add-one, length, map, take, drop, get_or, slice_get, arith}
-use Rattle.std.proofs.lemmas.List.{append-nil, drop_all, get_or_default, length-map, length-take-le, map-append, take_all, take_more}
+use Rattle.std.proofs.Common.{◌≡◌, ◌∙◌, ap, sym, subst, ℕ, ◌+◌, ◌<◌, ◌≤◌, List, [], ◌∷◌, ◌++◌, Some, add-one, length, map, take, get_or, slice_get, arith}
+use Rattle.std.proofs.lemmas.List.{get_or_default, length-map, length-take-le, map-append, take_more}
 use Rattle.std.proofs.lemmas.Option.{same_Some, slice_get-get_or, slice_get_within}
-use Rattle.cost_terms.specs.CostData.{Fits as FitsCosts, greatest as candidate_counts}
 use Rattle.cost_terms.specs.Table.{Table}
 use Rattle.cost_terms.specs.declared.entries.Scored.{Scored}
-use Rattle.cost_terms.specs.declared.prices.CostData.{CostData}
 use Rattle.deck_check.specs.Readings as says
 use Rattle.checked_deck.specs.Systems.{system}
 use Rattle.deck_check.specs.Readings.{Says, years}
 use Rattle.plan_program.specs.Chosen.{IsPlanOf}
 use Rattle.plan_program.specs.Plans.{layer_at}
-use Rattle.plant_data.specs.Configs.{IsAtMost}
 use Rattle.report_text.specs.declared.data.PlanYear.{PlanYear}
 use Rattle.sim_engine.specs.Engine.{Room}
 use Rattle.wasp_session.proofs.PlanSteps.{before_at, last_more, last_of, place_is}
 use Rattle.wasp_session.specs.Steps.{HasPlace, HasRoom, HasYearRoom, HasYears, IsPlaced, IsYearSystem}
-use Rattle.year_system.specs.System.{Fits, System, greatest}
-
--- what is written over all of a vector is what it has
-pub written_over : {X : Type 0} (new was : List X) (n : ℕ) → length new ≡ length was → n ≡ length was → take n (new ++ drop (length new) was) ≡ new
-written_over new was n same all =
-    ap (λ ys. take n (new ++ ys)) (drop_all (length new) was (omega (arith, same))) ∙ (ap (take n) (append-nil new) ∙ take_all n new (omega (arith, same, all)))
-
--- what is within the candidates of the costs fits the system of a year
-pub fits_year : (d : Says) (t : ℕ) (s : System) (e : CostData) (counts : List ℕ) → IsYearSystem d t s → candidate_counts e ≡ says.greatest d → FitsCosts e counts → Fits s counts
-fits_year d t s e counts is width fits =
-    let same : candidate_counts e ≡ greatest s = width ∙ sym is.width in
-    record { width = fits.width ∙ ap length same; most = subst (IsAtMost counts) same fits.most }
+use Rattle.year_system.specs.System.{System, greatest}
 
 -- the number of a year's system is one of the book's
 pub number_within : (d : Says) (book : List System) (ids : List ℕ) (k : ℕ) → HasYears d book ids → k < years d → get_or ids k 0 < length book

@@ -11,8 +11,8 @@ ghost use Rattle.wasp_session.specs.Steps as spec;
 ghost use Rattle.wasp_session.specs.Steps.{AreLimits, AreYearLists, HasYears};
 
 use crate::demands::case_demands;
-use cost_terms::CaseTable;
 use checked_deck::TypedDeck;
+use cost_terms::CaseTable;
 use plant_data::{Config, Limit, Listed};
 use sim_sweep::{CaseDone, CaseJob, Kept, case_table, solve_table};
 use std::alloc::Global;
