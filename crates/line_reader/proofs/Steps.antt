@@ -54,7 +54,7 @@ last_found (Some text) None line h t some = absurd t
 last_found (Some text) (Some rest) [] h t some = absurd (omega (arith, some))
 last_found (Some text) (Some rest) (b ∷ line) h t some = rw t.0 (last b line h)
 
-long_found : (before now : Option (List ℕ)) (line : List ℕ) → IsUnbroken line → Consumes before now line → 4096 < length line → IfSome before (λ text. LineBegins text line)
+long_found : (before now : Option (List ℕ)) (line : List ℕ) → IsUnbroken line → Consumes before now line → length line ≡ 4097 → IfSome before (λ text. LineBegins text line)
 long_found None now line h t long = tt
 long_found (Some text) None line h t long = absurd t
 long_found (Some text) (Some rest) [] h t long = absurd (omega (arith, long))
@@ -68,7 +68,7 @@ end_found (Some text) (Some rest) t = ap lines_of t.0
 -- from the bytes of a line to the lines of the text
 pub line_from_text : (before now : Option (List ℕ)) (line : List ℕ) (found : Found) → IsUnbroken line → LineTextFrom before now line found → LineFrom before now line found
 line_from_text before now line found.Line h t = (t.0, h, t.1)
-line_from_text before now line found.Last h t = (last_found before now line h t.0 t.1, t.2)
-line_from_text before now line found.Long h t = (long_found before now line h t.0 t.1, t.1)
-line_from_text before now line found.End h t = end_found before now t
+line_from_text before now line found.Last h t = (t.0, h, t.1, t.2, last_found before now line h t.0 t.1)
+line_from_text before now line found.Long h t = (t.0, h, t.1, long_found before now line h t.0 t.1)
+line_from_text before now line found.End h t = (t, end_found before now t)
 line_from_text before now line found.Failed h t = (t.0, h, t.1)

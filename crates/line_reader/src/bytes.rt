@@ -1,5 +1,5 @@
 //! One byte after the other, out of a source that gives pieces.
-ghost use Rattle.std.specs.Prelude.{◌≡◌, ◌≤◌, List, ℕ, [], drop, take};
+ghost use Rattle.std.specs.Prelude.{◌≡◌, ◌≤◌, List, ℕ, [], ◌∷◌, drop, false, take};
 ghost use Rattle.wasp_io.specs.Causes.{HasCause};
 
 use std::marker::Model;
@@ -31,7 +31,7 @@ impl Model for ByteReader {
 }
 
 impl ByteReader {
-    ghost use Rattle.line_reader.specs.Reading.{ahead, ByteFrom};
+    ghost use Rattle.line_reader.specs.Reading.{ahead, ByteFrom, is_over};
 
     /// Nothing is kept yet.
     pub fn new() -> Self
@@ -44,10 +44,14 @@ impl ByteReader {
         }
     }
 
-    /// Reads the next byte. The source is asked only where no byte is kept.
+    /// Reads the next byte. The source is asked only where no byte is kept. After `End` or `Failed` no
+    /// call may follow.
     pub fn next<S: Source>(&mut self, source: &mut S) -> Next
+        requires open { S.ended source.old ≡ false }
         ensures bytes { ByteFrom (ahead self.old (S.left source.old)) (ahead self.new (S.left source.new)) result }
+        ensures kept { (b : ℕ) (bs : List ℕ) → self.old ≡ b ∷ bs → (result ≡ Next.Byte b) × (self.new ≡ bs) × (source.new ≡ source.old) }
         ensures cause { HasCause (S.faults source.old) (S.faults source.new) (result ≡ Next.Failed) }
+        ensures ended { S.ended source.new ≡ is_over result }
         ensures sure { S.sure source.new ≡ S.sure source.old }
         ensures nothing_kept { result ≡ Next.Failed → self.new ≡ [] }
     {

@@ -1,9 +1,9 @@
 //! One line after the other.
-ghost use Rattle.std.specs.Prelude.{◌≡◌, ℕ, List, [], IfOk, OnErr};
+ghost use Rattle.std.specs.Prelude.{◌≡◌, ℕ, List, [], IfOk, OnErr, false};
 ghost use Rattle.std.specs.Io.KnownBytes.{Consumes};
 ghost use Rattle.wasp_io.specs.Causes.{HasCause};
 ghost use Rattle.line_reader.specs.Lines.{IsUnbroken};
-ghost use Rattle.line_reader.specs.Reading.{ahead, LineTextFrom, LineFrom};
+ghost use Rattle.line_reader.specs.Reading.{ahead, is_final, LineTextFrom, LineFrom};
 
 use crate::bytes::{ByteReader, Next};
 use wasp_fixed::OutOfMemory;
@@ -32,10 +32,12 @@ fn gather<S: Source>(
     source: &mut S,
     line: &mut Vec<u8>,
 ) -> Result<Found, OutOfMemory>
+    requires open { S.ended source.old ≡ false }
     ensures text { IfOk result (λ found. LineTextFrom (ahead reader.old (S.left source.old)) (ahead reader.new (S.left source.new)) line.new.items found) }
     ensures unbroken { IsUnbroken line.new.items }
     ensures err { OnErr result ((part : List ℕ) × Consumes (ahead reader.old (S.left source.old)) (ahead reader.new (S.left source.new)) part) }
     ensures cause { HasCause (S.faults source.old) (S.faults source.new) (result ≡ Ok Found.Failed) }
+    ensures ended { IfOk result (λ found. S.ended source.new ≡ is_final found) }
     ensures sure { S.sure source.new ≡ S.sure source.old }
     ensures nothing_kept { result ≡ Ok Found.Failed → reader.new ≡ [] }
 {
@@ -58,16 +60,19 @@ fn gather<S: Source>(
 }
 
 /// Reads the next line, without its line feed, into the buffer, whatever it held. A line is given up as
-/// long as soon as 4,097 bytes of it are read. After an `Err`, want of memory, some bytes are
-/// gone from the source and the buffer, so no call is to follow.
+/// long as soon as 4,097 bytes of it are read, and nothing more is taken. After `Last`, `End` or
+/// `Failed` no call may follow. After an `Err`, want of memory, some bytes are gone from the source and
+/// the buffer, so no call is to follow.
 pub fn next_line<S: Source>(
     reader: &mut ByteReader,
     source: &mut S,
     line: &mut Vec<u8>,
 ) -> Result<Found, OutOfMemory>
+    requires open { S.ended source.old ≡ false }
     ensures line { IfOk result (λ found. LineFrom (ahead reader.old (S.left source.old)) (ahead reader.new (S.left source.new)) line.new.items found) }
     ensures err { OnErr result ((part : List ℕ) × Consumes (ahead reader.old (S.left source.old)) (ahead reader.new (S.left source.new)) part) }
     ensures cause { HasCause (S.faults source.old) (S.faults source.new) (result ≡ Ok Found.Failed) }
+    ensures ended { IfOk result (λ found. S.ended source.new ≡ is_final found) }
     ensures sure { S.sure source.new ≡ S.sure source.old }
     ensures nothing_kept { result ≡ Ok Found.Failed → reader.new ≡ [] }
 {

@@ -1,13 +1,15 @@
+ghost use Rattle.std.specs.Prelude.{◌≡◌, IfOk, false};
+ghost use Rattle.line_reader.specs.Reading.{is_final};
+
 use crate::{ByteReader, Found, next_line};
 use std::alloc::Global;
 use std::test::Fail;
-use wasp_io::MemSource;
+use wasp_io::{MemSource, Source};
 
-fn next(
-    reader: &mut ByteReader,
-    source: &mut MemSource,
-    line: &mut Vec<u8>,
-) -> Result<Found, Fail> {
+fn next(reader: &mut ByteReader, source: &mut MemSource, line: &mut Vec<u8>) -> Result<Found, Fail>
+    requires open { ⟦<MemSource as Source>⟧.ended source.old ≡ false }
+    ensures ended { IfOk result (λ found. ⟦<MemSource as Source>⟧.ended source.new ≡ is_final found) }
+{
     Ok(next_line(reader, source, line)?)
 }
 

@@ -14,13 +14,14 @@ pub struct MemSource {
     fails: Vec<u64>,
     calls: u64,
     faults: u64,
+    over: bool,
     ghost in_range: { at ≤ vec_len bytes },
     ghost gives: { 0 < chunk },
     ghost clean: { length fails.items ≡ 0 → faults ≡ 0 },
 }
 
 impl MemSource {
-    ghost use Rattle.std.specs.Prelude.{◌==◌, IfOk, Some};
+    ghost use Rattle.std.specs.Prelude.{◌==◌, IfOk, Some, false};
     ghost use Rattle.wasp_io.specs.Memory.{bytes_left, failing_takes, take_chunk, takes_made};
 
     /// The bytes from their front on, at most `chunk` of them per call. `chunk` is not 0.
@@ -33,6 +34,7 @@ impl MemSource {
         requires { 0 < chunk }
         ensures told { IfOk result (λ s. ⟦<MemSource as Source>⟧.left s ≡ Some bytes.now) }
         ensures faults { IfOk result (λ s. ⟦<MemSource as Source>⟧.faults s ≡ 0) }
+        ensures open { IfOk result (λ s. ⟦<MemSource as Source>⟧.ended s ≡ false) }
         ensures sure { IfOk result (λ s. ⟦<MemSource as Source>⟧.sure s ≡ (length fails.now == 0)) }
         ensures left { IfOk result (λ s. bytes_left s ≡ bytes.now) }
         ensures chunk { IfOk result (λ s. take_chunk s ≡ chunk) }
@@ -46,15 +48,16 @@ impl MemSource {
             fails: Vec::from_slice(alloc, fails)?,
             calls: 0,
             faults: 0,
+            over: false,
         })
     }
 }
 
 impl Source for MemSource {
-    ghost use Rattle.std.specs.Prelude.{◌↔◌, ◌==◌, ◌+◌, ◌-◌, ◌^◌, ℕ, Contains, Some, min, if◌then◌else◌};
+    ghost use Rattle.std.specs.Prelude.{◌↔◌, ◌==◌, ◌+◌, ◌-◌, ◌^◌, ℕ, Contains, Some, false, min, if◌then◌else◌};
     ghost use Rattle.std.specs.List.{list_any};
     ghost use Rattle.wasp_io.specs.Causes.{HasCause};
-    ghost use Rattle.wasp_io.specs.Known.{IsTakenWithin, TakesFrom};
+    ghost use Rattle.wasp_io.specs.Known.{IsTakenWithin, TakesFrom, is_over};
     ghost use Rattle.wasp_io.specs.Memory.{bytes_left, failing_takes, take_chunk, takes_made, source_is_sure};
     ghost use Rattle.wasp_io.specs.declared.source.Taken.TheVariants as taken;
 
@@ -62,15 +65,19 @@ impl Source for MemSource {
 
     ghost faults = { λ s. s.faults };
 
+    ghost ended = { λ s. s.over };
+
     ghost sure = { λ s. length s.fails.items == 0 };
 
     ghost never_fails = { λ s h. source_is_sure s.fails.items s.faults s.clean h };
 
     fn take(&mut self, room: &mut [u8]) -> Taken
-        requires { 0 < length room.old }
+        requires not_empty { 0 < length room.old }
+        requires open { self.old.over ≡ false }
         ensures within { IsTakenWithin room.new result }
         ensures bytes { TakesFrom (Some (bytes_left self.old)) (Some (bytes_left self.new)) room.new result }
         ensures cause { HasCause self.old.faults self.new.faults (result ≡ Taken.Failed) }
+        ensures ended { self.new.over ≡ is_over result }
         ensures sure { (length (failing_takes self.new) == 0) ≡ (length (failing_takes self.old) == 0) }
         // A call fails exactly where its number is listed, and only such a call is counted.
         ensures numbered { takes_made self.new ≡ min (takes_made self.old + 1) (2 ^ 64 - 1) }
@@ -84,10 +91,12 @@ impl Source for MemSource {
         self.calls = self.calls.saturating_add(1);
         if self.fails.contains(&self.calls) {
             self.faults = self.faults.saturating_add(1);
+            self.over = true;
             return Taken::Failed;
         }
         let count = room.len().min(self.chunk).min(self.bytes.len() - self.at);
         if count == 0 {
+            self.over = true;
             return Taken::End;
         }
         let end = self.at + count;
@@ -107,6 +116,7 @@ pub struct MemSink {
     fails: Vec<u64>,
     calls: u64,
     faults: u64,
+    broken: bool,
     ghost has_room: { room ≤ vec_capacity bytes },
     ghost fits: { vec_len bytes ≤ room },
     ghost takes: { 0 < chunk },
@@ -114,7 +124,7 @@ pub struct MemSink {
 }
 
 impl MemSink {
-    ghost use Rattle.std.specs.Prelude.{◌==◌, [], None, Some, IfOk, if◌then◌else◌};
+    ghost use Rattle.std.specs.Prelude.{◌==◌, [], None, Some, IfOk, false, if◌then◌else◌};
     ghost use Rattle.wasp_io.specs.Memory.{bytes_written, failing_puts, put_chunk, puts_made, sink_room};
 
     /// Room for `room` bytes, at most `chunk` of them per call. `chunk` is not 0.
@@ -127,6 +137,7 @@ impl MemSink {
         requires { 0 < chunk }
         ensures told { IfOk result (λ s. ⟦<MemSink as Sink>⟧.written s ≡ Some []) }
         ensures faults { IfOk result (λ s. ⟦<MemSink as Sink>⟧.faults s ≡ 0) }
+        ensures open { IfOk result (λ s. ⟦<MemSink as Sink>⟧.failed s ≡ false) }
         ensures sure_room { IfOk result (λ s. ⟦<MemSink as Sink>⟧.sure_room s ≡ (if length fails.now == 0 then Some room else None)) }
         ensures written { IfOk result (λ s. bytes_written s ≡ []) }
         ensures room { IfOk result (λ s. sink_room s ≡ room) }
@@ -141,6 +152,7 @@ impl MemSink {
             fails: Vec::from_slice(alloc, fails)?,
             calls: 0,
             faults: 0,
+            broken: false,
         })
     }
 
@@ -154,7 +166,7 @@ impl MemSink {
 }
 
 impl Sink for MemSink {
-    ghost use Rattle.std.specs.Prelude.{◌↔◌, ◌⊎◌, ◌==◌, ◌+◌, ◌-◌, ◌^◌, ℕ, Contains, None, Some, min, if◌then◌else◌};
+    ghost use Rattle.std.specs.Prelude.{◌↔◌, ◌⊎◌, ◌==◌, ◌+◌, ◌-◌, ◌^◌, ℕ, Contains, None, Some, false, min, if◌then◌else◌};
     ghost use Rattle.wasp_io.specs.Causes.{HasCause};
     ghost use Rattle.wasp_io.specs.Known.{IsGivenWithin, PutsTo, is_failed};
     ghost use Rattle.wasp_io.specs.Memory.{bytes_written, failing_puts, put_chunk, puts_made, sink_room, sink_is_sure};
@@ -164,15 +176,19 @@ impl Sink for MemSink {
 
     ghost faults = { λ s. s.faults };
 
+    ghost failed = { λ s. s.broken };
+
     ghost sure_room = { λ s. if length s.fails.items == 0 then Some s.room else None };
 
     ghost within_room = { λ s r h. sink_is_sure s.fails.items s.room s.bytes s.faults s.clean r h };
 
     fn put(&mut self, piece: &[u8]) -> Given
-        requires { 0 < length piece.now }
+        requires not_empty { 0 < length piece.now }
+        requires open { self.old.broken ≡ false }
         ensures within { IsGivenWithin piece.now result }
         ensures bytes { PutsTo (Some (bytes_written self.old)) (Some (bytes_written self.new)) piece.now result }
         ensures cause { HasCause self.old.faults self.new.faults (result ≡ Given.Failed) }
+        ensures failed { self.new.broken ≡ is_failed result }
         ensures sure_room { (if length (failing_puts self.new) == 0 then Some (sink_room self.new) else None) ≡ (if length (failing_puts self.old) == 0 then Some (sink_room self.old) else None) }
         // A call fails exactly where its number is listed or the room is full.
         ensures numbered { puts_made self.new ≡ min (puts_made self.old + 1) (2 ^ 64 - 1) }
@@ -187,10 +203,12 @@ impl Sink for MemSink {
         self.calls = self.calls.saturating_add(1);
         if self.fails.contains(&self.calls) {
             self.faults = self.faults.saturating_add(1);
+            self.broken = true;
             return Given::Failed;
         }
         if self.bytes.len() == self.room {
             self.faults = self.faults.saturating_add(1);
+            self.broken = true;
             return Given::Failed;
         }
         let count = piece

@@ -7,15 +7,21 @@ use std::io::{Read, Write};
 pub struct StdSource<R> {
     reader: R,
     faults: u64,
+    over: bool,
 }
 
 impl<R: Read> StdSource<R> {
-    ghost use Rattle.std.specs.Prelude.{◌≡◌};
+    ghost use Rattle.std.specs.Prelude.{◌≡◌, false};
 
     pub fn new(reader: R) -> Self
-        ensures { ⟦<StdSource<R> as Source>⟧.faults result ≡ 0 }
+        ensures faults { ⟦<StdSource<R> as Source>⟧.faults result ≡ 0 }
+        ensures open { ⟦<StdSource<R> as Source>⟧.ended result ≡ false }
     {
-        StdSource { reader, faults: 0 }
+        StdSource {
+            reader,
+            faults: 0,
+            over: false,
+        }
     }
 }
 
@@ -27,16 +33,22 @@ impl<R: Read> Source for StdSource<R> {
 
     ghost faults = { λ s. s.faults };
 
+    ghost ended = { λ s. s.over };
+
     ghost sure = { λ _. false };
 
     ghost never_fails = { λ s h. not_sure h };
 
     fn take(&mut self, room: &mut [u8]) -> Taken {
         match self.reader.read(room) {
-            Ok(0) => Taken::End,
+            Ok(0) => {
+                self.over = true;
+                Taken::End
+            }
             Ok(count) => Taken::Bytes(count),
             Err(_) => {
                 self.faults = self.faults.saturating_add(1);
+                self.over = true;
                 Taken::Failed
             }
         }
@@ -48,15 +60,21 @@ impl<R: Read> Source for StdSource<R> {
 pub struct StdSink<W> {
     writer: W,
     faults: u64,
+    broken: bool,
 }
 
 impl<W: Write> StdSink<W> {
-    ghost use Rattle.std.specs.Prelude.{◌≡◌};
+    ghost use Rattle.std.specs.Prelude.{◌≡◌, false};
 
     pub fn new(writer: W) -> Self
-        ensures { ⟦<StdSink<W> as Sink>⟧.faults result ≡ 0 }
+        ensures faults { ⟦<StdSink<W> as Sink>⟧.faults result ≡ 0 }
+        ensures open { ⟦<StdSink<W> as Sink>⟧.failed result ≡ false }
     {
-        StdSink { writer, faults: 0 }
+        StdSink {
+            writer,
+            faults: 0,
+            broken: false,
+        }
     }
 }
 
@@ -68,6 +86,8 @@ impl<W: Write> Sink for StdSink<W> {
 
     ghost faults = { λ s. s.faults };
 
+    ghost failed = { λ s. s.broken };
+
     ghost sure_room = { λ _. None };
 
     ghost within_room = { λ s r h. no_room h };
@@ -76,6 +96,7 @@ impl<W: Write> Sink for StdSink<W> {
         match self.writer.write(piece) {
             Ok(0) | Err(_) => {
                 self.faults = self.faults.saturating_add(1);
+                self.broken = true;
                 Given::Failed
             }
             Ok(count) => Given::Wrote(count),

@@ -1,4 +1,4 @@
-use Rattle.std.proofs.Common.{◌≡◌, ◌≤◌, length}
+use Rattle.std.proofs.Common.{◌≡◌, false, length}
 use Rattle.std.specs.Io.KnownBytes.{Consumes}
 use Rattle.line_reader.specs.Lines.{IsUnbroken}
 use Rattle.line_reader.specs.Reading.{ahead}
@@ -12,6 +12,7 @@ invariant-loop g l =
       text : Consumes (ahead l.fn.reader (left l.fn.source)) (ahead l.reader (left l.source)) l.line.items;
       unbroken : IsUnbroken l.line.items;
       count : length l.line.items ≡ l.counter;
-      later : faults l.fn.source ≤ faults l.source;
+      same : faults l.source ≡ faults l.fn.source;
+      still : g.S.Source.ended l.source ≡ false;
       sure : g.S.Source.sure l.source ≡ g.S.Source.sure l.fn.source;
     }
