@@ -1,6 +1,6 @@
 -- Which fault a count of faults rose by, and what cannot fail.
-use Rattle.std.proofs.Common.{◌≡◌, ◌≢◌, ◌∙◌, refl, sym, ap, subst, true≢false, is_some, ℕ, ◌+◌, ◌-◌, ◌^◌, ◌<◌, ◌≤◌, min, List, [], ◌∷◌, ◌++◌, length, Option, None, Some, arith}
-use Rattle.std.specs.Prelude.{Result, Ok, IfSome}
+use Rattle.std.proofs.Common.{◌≡◌, ◌≢◌, ◌∙◌, refl, sym, ap, subst, true≢false, false, is_some, ℕ, ◌+◌, ◌-◌, ◌^◌, ◌<◌, ◌≤◌, min, List, [], ◌∷◌, ◌++◌, length, Option, None, Some, arith}
+use Rattle.std.specs.Prelude.{Result, Ok, IfSome, ◌==◌}
 use Rattle.std.proofs.lemmas.List.{length-append}
 use Rattle.std.specs.Io.KnownBytes.{Appends}
 use Rattle.wasp_io.specs.Causes.{HasCause, Rose}
@@ -8,7 +8,7 @@ use Rattle.wasp_io.specs.Known.{IsSureWithin, is_failed}
 use Rattle.wasp_io.specs.declared.sink.Given.{Given}
 use Rattle.wasp_io.specs.declared.sink.Given.TheVariants as given
 use Rattle.wasp_session.specs.declared.command.Command.{Command}
-use Rattle.wasp4.specs.Out.{IsFront}
+use Rattle.wasp4.specs.Out.{IsFront, accepted, asked}
 use Rattle.wasp4.specs.Progress.{HasRoomFor, PutAs, StopsShort}
 use Rattle.wasp4.specs.Script.{script_of}
 use Rattle.wasp4.specs.declared.status.Ending.TheVariants as endings
@@ -67,6 +67,18 @@ pub ended_cause : {X Y : Type 0} (served : Option Status) (status fault : Status
 ended_cause {X} {Y} served status fault e f g is same cause =
     same_cause e f g same (λ h. ap (λ (x : Status). Ok x) (same_some (sym is ∙ same_ok h))) (λ h. ap (λ (x : Option Status). Ok x) (is ∙ ap (λ (x : Status). Some x) (same_ok h))) cause
 
+-- nothing is kept behind it
+pub kept_none : {X : Type 0} {P : Type 0} (served : Option Status) (status : Status) → served ≡ Some status → (◌≡◌ {A = Result (Option Status) X} (Ok served) (Ok (Some statuses.ReadFault)) → P) → status ≡ statuses.ReadFault → P
+kept_none {X} {P} served status is none fault = none (ap (λ (x : Option Status). Ok x) (is ∙ ap (λ (x : Status). Some x) fault))
+
+-- a line behind which the script goes on counted no fault
+pub goes_uncounted : {X : Type 0} (served : Option Status) (fault : Status) (e f g : ℕ) → served ≡ None → f ≡ e → HasCause f g (◌≡◌ {A = Result (Option Status) X} (Ok served) (Ok (Some fault))) → g ≡ e
+goes_uncounted {X} served fault e f g goes same cause = cause.only (λ is. true≢false (sym (ap is_some (sym goes ∙ same_ok is)))) ∙ same
+
+-- a count that was the same before
+pub earlier_cause : {P : Type 0} (e f g : ℕ) → f ≡ e → HasCause f g P → HasCause e g P
+earlier_cause {P} e f g same cause = same_cause e f g same (λ p. p) (λ p. p) cause
+
 -- ---- what cannot fail
 
 of_told : (a : Option (List ℕ)) (bytes : List ℕ) (P : List ℕ → Type 0) → a ≡ Some bytes → IfSome a P → P bytes
@@ -91,3 +103,9 @@ never_short command left a b room f g has sure short rose =
     let fits = has.fits (short.said ++ short.next ∷ []) front in
     let fewer : length now < has.most = omega (arith, fits, length-append short.said (short.next ∷ []), length-append has.before short.said) in
     not_risen f g (of_told b now (λ bytes. length bytes < has.most → g ≡ 0) wrote within.no_fault fewer) rose
+
+-- the command that the words are is the one that is accepted
+pub same_command : (words : List (List ℕ)) (engines : ℕ) (result : Option Command) (command other : Command) → result ≡ Some command → result ≡ asked words → engines == 0 ≡ false → accepted words engines ≡ Some other → command ≡ other
+same_command words engines result command other is by some taken =
+    let told : asked words ≡ Some other = rw some at taken in
+    same_some (sym is ∙ by ∙ told)

@@ -1,6 +1,6 @@
 -- How turns follow one another, and what is written at each way out.
 use Rattle.std.proofs.Common.{◌≡◌, ◌∙◌, refl, sym, ap, subst, ℕ, ◌+◌, List, [], ◌∷◌, ◌++◌, Option, None, Some, append_assoc}
-use Rattle.std.specs.Prelude.{IfSome}
+use Rattle.std.specs.Prelude.{Err, IfOk, IfSome, Ok, OnErr, Result}
 use Rattle.std.proofs.lemmas.List.{append-nil, length-append}
 use Rattle.std.specs.Io.KnownBytes.{Appends, Consumes}
 use Rattle.deck_lines.specs.declared.line.Line.{Line}
@@ -172,3 +172,15 @@ pub answered : (command : Command) (a b left w v z : Option (List ℕ)) (kept : 
     → Serves command b (ahead kept left) v z so_far.read t so_far.said start x (Some status) → (status ≡ statuses.ReadFault → kept ≡ []) → Answers command a left w z start x status
 answered command a b left w v z kept s t start u x n status so_far served none =
     ended_put command a b left w v z kept s t start u x n served.text served.turn status so_far served.took none served.put
+
+-- the same of a result
+pub answered_past : {X : Type 0} (command : Command) (a b left w v z : Option (List ℕ)) (kept : List ℕ) (s t : State) (start u x : Work) (n : ℕ) (result : Result Status X) (so_far : Advances command a b w v s start u n)
+    → IfOk result (λ status. Serves command b (ahead kept left) v z so_far.read t so_far.said start x (Some status)) → (result ≡ Ok statuses.ReadFault → kept ≡ []) → IfOk result (λ status. Answers command a left w z start x status)
+answered_past {X} command a b left w v z kept s t start u x n (Ok status) so_far served none = answered command a b left w v z kept s t start u x n status so_far served (λ is. none (ap (λ (y : Status). Ok y) is))
+answered_past {X} command a b left w v z kept s t start u x n (Err e) so_far served none = tt
+
+pub stopped_past : {X Y Z : Type 0} (command : Command) (a b w : Option (List ℕ)) (written : Y → Option (List ℕ)) (old new : Y) (s : State) (start u : Work) (n : ℕ) (result : Result Z X) → Advances command a b w (written old) s start u n
+    → OnErr result (new ≡ old) → OnErr result (StopsWithin command a w (written new))
+stopped_past {X} {Y} {Z} command a b w written old new s start u n (Ok z) so_far same = tt
+stopped_past {X} {Y} {Z} command a b w written old new s start u n (Err e) so_far same =
+    subst (λ (y : Y). StopsWithin command a w (written y)) (sym same) (stops_here command a b w (written old) s start u n so_far)

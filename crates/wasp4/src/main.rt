@@ -26,8 +26,8 @@ use wasp_fixed::OutOfMemory;
 use wasp_io::{StdSink, StdSource};
 pub use words::CommandWords;
 
-
-
+#[cfg(test)]
+mod tests;
 
 /// The words after the program's name; none where they cannot be read, as bytes that are no text.
 fn read_words(rt: &(impl Env + AllocGlobal), alloc: Global) -> Result<CommandWords, OutOfMemory> {
