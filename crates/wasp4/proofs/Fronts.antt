@@ -1,11 +1,12 @@
 -- Fronts of the text of a script.
 use Rattle.std.proofs.Common.{◌≡◌, ◌∙◌, sym, ℕ, inl, inr, List, ◌++◌}
 use Rattle.deck_lines.specs.declared.line.Line.{Line}
+use Rattle.sim_engine.specs.Engine.{Work}
 use Rattle.wasp_session.specs.State.{State}
 use Rattle.wasp_session.specs.declared.command.Command.{Command}
 use Rattle.wasp4.specs.Out.{IsAnswered, IsFront}
 use Rattle.wasp4.specs.Script.{Script, script_behind}
-use Rattle.wasp4.specs.Work.{HasRun, Work}
+use Rattle.wasp4.specs.Work.{HasRun}
 use Rattle.wasp4.proofs.Scripts.{keeps_lines}
 
 -- of lines that were read

@@ -1,3 +1,5 @@
+pub mod Ends
+pub mod Faults
 pub mod Fronts
 pub mod OneText
 pub mod Progressing

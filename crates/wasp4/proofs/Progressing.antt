@@ -1,11 +1,12 @@
 -- How turns follow one another, and what is written at each way out.
 use Rattle.std.proofs.Common.{◌≡◌, ◌∙◌, refl, sym, ap, subst, ℕ, ◌+◌, List, [], ◌∷◌, ◌++◌, Option, None, Some, append_assoc}
-use Rattle.std.specs.Prelude.{IfSome}
+use Rattle.std.specs.Prelude.{Err, IfOk, IfSome, Ok, OnErr, Result}
 use Rattle.std.proofs.lemmas.List.{append-nil, length-append}
 use Rattle.std.specs.Io.KnownBytes.{Appends, Consumes}
 use Rattle.deck_lines.specs.declared.line.Line.{Line}
 use Rattle.line_reader.specs.Lines.{lines_of, unlines}
 use Rattle.line_reader.specs.Reading.{ahead}
+use Rattle.sim_engine.specs.Engine.{Work}
 use Rattle.wasp_session.specs.State.{Follows, State}
 use Rattle.wasp_session.specs.declared.command.Command.{Command}
 use Rattle.wasp4.specs.declared.status.Ending.{Ending}
@@ -15,9 +16,8 @@ use Rattle.wasp4.specs.declared.status.Status.TheVariants as statuses
 use Rattle.wasp4.specs.declared.status.Turn.{Turn}
 use Rattle.wasp4.specs.declared.status.Turn.TheVariants as turns
 use Rattle.wasp4.specs.Out.{IsFront}
-use Rattle.wasp4.specs.Progress.{Advances, Answers, Closes, EndsIn, PutAs, StopsBetween, StopsWithin, TakesLine, TakesPart, TurnFrom}
+use Rattle.wasp4.specs.Progress.{Advances, Answers, Closes, EndsIn, IsCutShort, PutAs, Serves, StopsBetween, StopsShort, StopsWithin, TakesLine, TakesPart, TurnFrom}
 use Rattle.wasp4.specs.Script.{Script, script_behind}
-use Rattle.wasp4.specs.Work.{Work}
 use Rattle.wasp4.proofs.Fronts.{told_front, whole_front}
 use Rattle.wasp4.proofs.Running.{run_none}
 use Rattle.wasp4.proofs.Texts.{Consumes-none, Consumes-then, ahead_none, all_push, behind_line, behind_lines, unlines-push}
@@ -52,11 +52,11 @@ pub started : (command : Command) (a w : Option (List ℕ)) (kept : List ℕ) (s
 started command a w kept s start none same nos follows =
     subst (λ (b : Option (List ℕ)). Advances command a b w w s start start 0) (sym (ahead_none a kept none)) (starts command a w s start same nos follows)
 
--- one turn more
-pub advanced : (command : Command) (a b c w v z : Option (List ℕ)) (s t : State) (start u x : Work) (n : ℕ) (text : List ℕ) (turn : Option Turn) (so_far : Advances command a b w v s start u n)
-    → TurnFrom command b c so_far.read t (so_far.said ++ text) start x turn → PutAs v z text turn None → Advances command a c w z t start x (n + 1)
-advanced command a b c w v z s t start u x n text turn so_far turned put =
-    let line : TakesLine command b c so_far.read t (so_far.said ++ text) start x = subst (TurnFrom command b c so_far.read t (so_far.said ++ text) start x) put.0 turned in
+-- one line more
+pub advanced : (command : Command) (a b c w v z : Option (List ℕ)) (s t : State) (start u x : Work) (n : ℕ) (so_far : Advances command a b w v s start u n)
+    → Serves command b c v z so_far.read t so_far.said start x None → Advances command a c w z t start x (n + 1)
+advanced command a b c w v z s t start u x n so_far served =
+    let line : TakesLine command b c so_far.read t (so_far.said ++ served.text) start x = subst (TurnFrom command b c so_far.read t so_far.said served.text start x) served.put.0 served.took in
     record {
       texts = so_far.texts ++ line.bytes ∷ [];
       whole = all_push so_far.texts line.bytes so_far.whole line.whole;
@@ -64,8 +64,8 @@ advanced command a b c w v z s t start u x n text turn so_far turned put =
       read = so_far.read ++ line.line ∷ [];
       count = length-append so_far.read (line.line ∷ []) ∙ ap (λ (m : ℕ). m + 1) so_far.count;
       leads = λ more. ap (script_behind command []) (append_assoc so_far.texts (line.bytes ∷ []) more) ∙ so_far.leads (line.bytes ∷ more) ∙ line.leads more;
-      said = so_far.said ++ text;
-      wrote = Appends-then w v z so_far.said text so_far.wrote put.1;
+      said = so_far.said ++ served.text;
+      wrote = Appends-then w v z so_far.said served.text so_far.wrote served.put.1;
       run = line.run;
     }
 
@@ -87,56 +87,63 @@ stops_here command a b w v s start u n so_far =
 abbrev FrontAt : Command → List (List ℕ) → List ℕ → List (List ℕ) → Type 0
 FrontAt command texts said ls = IsFront (script_behind command [] (texts ++ ls)) said
 
-front_of_turn : (command : Command) (b c : Option (List ℕ)) (t : State) (start x : Work) (texts : List (List ℕ)) (read : List Line) (said done rest : List ℕ) (turn : Option Turn)
-    → ((more : List (List ℕ)) → script_behind command [] (texts ++ more) ≡ script_behind command read more) → TurnFrom command b c read t said start x turn → said ≡ done ++ rest
+front_of_turn : (command : Command) (b c : Option (List ℕ)) (t : State) (start x : Work) (texts : List (List ℕ)) (read : List Line) (said text done rest : List ℕ) (turn : Option Turn)
+    → ((more : List (List ℕ)) → script_behind command [] (texts ++ more) ≡ script_behind command read more) → TurnFrom command b c read t said text start x turn → said ++ text ≡ done ++ rest
     → IfSome b (λ text. FrontAt command texts done (lines_of text))
-front_of_turn command b c t start x texts read said done rest None leads turned e =
-    of_all b (FrontAt command texts done) (λ more. subst (λ (z : Script). IsFront z done) (sym (leads more)) (told_front command read t said done rest start x more turned.run e))
-front_of_turn command b c t start x texts read said done rest (Some turns.Goes) leads turned e =
+front_of_turn command b c t start x texts read said text done rest None leads turned e =
+    let parts : said ≡ done ++ rest = sym (append-nil said) ∙ ap (λ (y : List ℕ). said ++ y) (sym turned.0) ∙ e in
+    of_all b (FrontAt command texts done) (λ more. subst (λ (z : Script). IsFront z done) (sym (leads more)) (told_front command read t said done rest start x more turned.1.run parts))
+front_of_turn command b c t start x texts read said text done rest (Some turns.Goes) leads turned e =
     behind_line b c turned.bytes (FrontAt command texts done) turned.whole turned.taken (λ more.
-    subst (λ (z : Script). IsFront z done) (sym (leads (turned.bytes ∷ more) ∙ turned.leads more)) (told_front command (read ++ turned.line ∷ []) t said done rest start x more turned.run e))
-front_of_turn command b c t start x texts read said done rest (Some (turns.Over ending)) leads turned e =
+    subst (λ (z : Script). IsFront z done) (sym (leads (turned.bytes ∷ more) ∙ turned.leads more)) (told_front command (read ++ turned.line ∷ []) t (said ++ text) done rest start x more turned.run e))
+front_of_turn command b c t start x texts read said text done rest (Some (turns.Over ending)) leads turned e =
     of_told b (λ ls. script_behind command read ls ≡ turned.script) (FrontAt command texts done)
-    (λ more is. subst (λ (z : Script). IsFront z done) (sym (leads more ∙ is)) (whole_front turned.script said done rest start x turned.answered e)) turned.is
+    (λ more is. subst (λ (z : Script). IsFront z done) (sym (leads more ∙ is)) (whole_front turned.script (said ++ text) done rest start x turned.answered e)) turned.is
 
-pub stops_in_turn : (command : Command) (a b c w v z : Option (List ℕ)) (s t : State) (start u x : Work) (n : ℕ) (text : List ℕ) (turn : Option Turn) (so_far : Advances command a b w v s start u n)
-    → TurnFrom command b c so_far.read t (so_far.said ++ text) start x turn
-    → ((done : List ℕ) × (rest : List ℕ) × Appends v z done × (text ≡ done ++ rest)) → StopsWithin command a w z
-stops_in_turn command a b c w v z s t start u x n text turn so_far turned put =
-    let done = put.0 in
-    let rest = put.1 in
-    let parts : so_far.said ++ text ≡ (so_far.said ++ done) ++ rest = ap (λ (y : List ℕ). so_far.said ++ y) put.3 ∙ sym (append_assoc so_far.said done rest) in (
-      so_far.said ++ done,
-      Appends-then w v z so_far.said done so_far.wrote put.2,
-      behind_lines a b so_far.texts (λ ls. IsFront (script_behind command [] ls) (so_far.said ++ done)) so_far.whole so_far.taken
-          (front_of_turn command b c t start x so_far.texts so_far.read (so_far.said ++ text) (so_far.said ++ done) rest turn so_far.leads turned parts),
-    )
+-- the sink failed
+stops_short : (command : Command) (a b c w v z : Option (List ℕ)) (s t : State) (start u x : Work) (n : ℕ) (text : List ℕ) (turn : Option Turn) (so_far : Advances command a b w v s start u n)
+    → TurnFrom command b c so_far.read t so_far.said text start x turn → IsCutShort v z text → StopsShort command a w z
+stops_short command a b c w v z s t start u x n text turn so_far turned cut =
+    let before = so_far.said in
+    let begun : List ℕ = (before ++ cut.done) ++ cut.next ∷ [] in
+    let parts : before ++ text ≡ begun ++ cut.rest =
+    ap (λ (y : List ℕ). before ++ y) cut.is ∙ sym (append_assoc before cut.done (cut.next ∷ cut.rest)) ∙ sym (append_assoc (before ++ cut.done) (cut.next ∷ []) cut.rest) in
+    record {
+      said = before ++ cut.done;
+      next = cut.next;
+      wrote = Appends-then w v z before cut.done so_far.wrote cut.wrote;
+      front = behind_lines a b so_far.texts (λ ls. IsFront (script_behind command [] ls) begun) so_far.whole so_far.taken
+          (front_of_turn command b c t start x so_far.texts so_far.read before text begun cut.rest turn so_far.leads turned parts);
+    }
 
 -- the source failed
-pub stops_between : (command : Command) (a b left w v z : Option (List ℕ)) (kept : List ℕ) (s t : State) (start u x : Work) (n : ℕ) (text : List ℕ) (so_far : Advances command a b w v s start u n)
-    → TakesPart command b (ahead kept left) so_far.read t (so_far.said ++ text) start x → kept ≡ [] → Appends v z text → StopsBetween command a left w z start x
-stops_between command a b left w v z kept s t start u x n text so_far turn none put = record {
-  texts = so_far.texts;
-  whole = so_far.whole;
-  part = turn.part;
-  unended = turn.unended;
-  short = turn.short;
-  taken = subst (λ (y : Option (List ℕ)). Consumes a y (unlines so_far.texts ++ turn.part)) (ahead_none left kept none) (Consumes-then a b (ahead kept left) (unlines so_far.texts) turn.part so_far.taken turn.taken);
-  read = so_far.read;
-  leads = so_far.leads;
-  few = turn.few;
-  told = turn.run.told;
-  is_told = turn.run.is_told;
-  wrote = subst (Appends w z) turn.run.text (Appends-then w v z so_far.said text so_far.wrote put);
-  keys = turn.run.keys;
-  are_keys = turn.run.are_keys;
-  worked = turn.run.worked;
-}
+stops_between : (command : Command) (a b left w v z : Option (List ℕ)) (kept : List ℕ) (s t : State) (start u x : Work) (n : ℕ) (text : List ℕ) (so_far : Advances command a b w v s start u n)
+    → TurnFrom command b (ahead kept left) so_far.read t so_far.said text start x None → kept ≡ [] → Appends v z [] → StopsBetween command a left w z start x
+stops_between command a b left w v z kept s t start u x n text so_far turned none put =
+    let part = turned.1 in
+    let same : so_far.said ++ [] ≡ part.run.told.text = append-nil so_far.said ∙ part.run.text in
+    record {
+      texts = so_far.texts;
+      whole = so_far.whole;
+      part = part.part;
+      unended = part.unended;
+      short = part.short;
+      taken = subst (λ (y : Option (List ℕ)). Consumes a y (unlines so_far.texts ++ part.part)) (ahead_none left kept none) (Consumes-then a b (ahead kept left) (unlines so_far.texts) part.part so_far.taken part.taken);
+      read = so_far.read;
+      leads = so_far.leads;
+      few = part.few;
+      told = part.run.told;
+      is_told = part.run.is_told;
+      wrote = subst (Appends w z) same (Appends-then w v z so_far.said [] so_far.wrote put);
+      keys = part.run.keys;
+      are_keys = part.run.are_keys;
+      worked = part.run.worked;
+    }
 
 -- the script is over
-pub closes_here : (command : Command) (a b w v z : Option (List ℕ)) (s : State) (start u x : Work) (n : ℕ) (text : List ℕ) (ending : Ending) (so_far : Advances command a b w v s start u n)
-    → EndsIn command b so_far.read (so_far.said ++ text) start x ending → Appends v z text → Closes command a w z start x ending
-closes_here command a b w v z s start u x n text ending so_far turn put = record {
+closes_here : (command : Command) (a b c w v z : Option (List ℕ)) (s : State) (start u x : Work) (n : ℕ) (text : List ℕ) (ending : Ending) (so_far : Advances command a b w v s start u n)
+    → EndsIn command b c so_far.read (so_far.said ++ text) start x ending → Appends v z text → Closes command a w z start x ending
+closes_here command a b c w v z s start u x n text ending so_far turn put = record {
   script = turn.script;
   is = behind_lines a b so_far.texts (λ ls. script_behind command [] ls ≡ turn.script) so_far.whole so_far.taken
       (of_told b (λ ls. script_behind command so_far.read ls ≡ turn.script) (λ ls. script_behind command [] (so_far.texts ++ ls) ≡ turn.script) (λ more is. so_far.leads more ∙ is) turn.is);
@@ -146,22 +153,34 @@ closes_here command a b w v z s start u x n text ending so_far turn put = record
   ends = turn.ends;
 }
 
--- how a turn whose text was put ends the run
+-- how a line whose text was put ends the run
 ended_put : (command : Command) (a b left w v z : Option (List ℕ)) (kept : List ℕ) (s t : State) (start u x : Work) (n : ℕ) (text : List ℕ) (turn : Option Turn) (status : Status) (so_far : Advances command a b w v s start u n)
-    → TurnFrom command b (ahead kept left) so_far.read t (so_far.said ++ text) start x turn → (turn ≡ None → kept ≡ []) → PutAs v z text turn (Some status) → Answers command a left w z start x status
+    → TurnFrom command b (ahead kept left) so_far.read t so_far.said text start x turn → (status ≡ statuses.ReadFault → kept ≡ []) → PutAs v z text turn (Some status) → Answers command a left w z start x status
 ended_put command a b left w v z kept s t start u x n text turn statuses.Done so_far turned none put =
-    closes_here command a b w v z s start u x n text endings.Done so_far (subst (TurnFrom command b (ahead kept left) so_far.read t (so_far.said ++ text) start x) put.0 turned) put.1
+    closes_here command a b (ahead kept left) w v z s start u x n text endings.Done so_far (subst (TurnFrom command b (ahead kept left) so_far.read t so_far.said text start x) put.0 turned) put.1
 ended_put command a b left w v z kept s t start u x n text turn statuses.CheckNo so_far turned none put =
-    closes_here command a b w v z s start u x n text endings.CheckNo so_far (subst (TurnFrom command b (ahead kept left) so_far.read t (so_far.said ++ text) start x) put.0 turned) put.1
+    closes_here command a b (ahead kept left) w v z s start u x n text endings.CheckNo so_far (subst (TurnFrom command b (ahead kept left) so_far.read t so_far.said text start x) put.0 turned) put.1
 ended_put command a b left w v z kept s t start u x n text turn statuses.Malformed so_far turned none put =
-    closes_here command a b w v z s start u x n text endings.Malformed so_far (subst (TurnFrom command b (ahead kept left) so_far.read t (so_far.said ++ text) start x) put.0 turned) put.1
+    closes_here command a b (ahead kept left) w v z s start u x n text endings.Malformed so_far (subst (TurnFrom command b (ahead kept left) so_far.read t so_far.said text start x) put.0 turned) put.1
 ended_put command a b left w v z kept s t start u x n text turn statuses.ReadFault so_far turned none put =
-    stops_between command a b left w v z kept s t start u x n text so_far (subst (TurnFrom command b (ahead kept left) so_far.read t (so_far.said ++ text) start x) put.0 turned) (none put.0) put.1
-ended_put command a b left w v z kept s t start u x n text turn statuses.WriteFault so_far turned none put = stops_in_turn command a b (ahead kept left) w v z s t start u x n text turn so_far turned put
+    stops_between command a b left w v z kept s t start u x n text so_far (subst (TurnFrom command b (ahead kept left) so_far.read t so_far.said text start x) put.0 turned) (none refl) put.1
+ended_put command a b left w v z kept s t start u x n text turn statuses.WriteFault so_far turned none put = stops_short command a b (ahead kept left) w v z s t start u x n text turn so_far turned put.1
 ended_put command a b left w v z kept s t start u x n text turn statuses.OutOfMemory so_far turned none put = absurd put
 ended_put command a b left w v z kept s t start u x n text turn statuses.BadWords so_far turned none put = absurd put
 
-pub answered : (command : Command) (a b left w v z : Option (List ℕ)) (kept : List ℕ) (s t : State) (start u x : Work) (n : ℕ) (text piece : List ℕ) (turn : Option Turn) (status : Status) (so_far : Advances command a b w v s start u n)
-    → TurnFrom command b (ahead kept left) so_far.read t (so_far.said ++ text) start x turn → (turn ≡ None → kept ≡ []) → piece ≡ text → PutAs v z piece turn (Some status) → Answers command a left w z start x status
-answered command a b left w v z kept s t start u x n text piece turn status so_far turned none same put =
-    ended_put command a b left w v z kept s t start u x n text turn status so_far turned none (subst (λ (y : List ℕ). PutAs v z y turn (Some status)) same put)
+pub answered : (command : Command) (a b left w v z : Option (List ℕ)) (kept : List ℕ) (s t : State) (start u x : Work) (n : ℕ) (status : Status) (so_far : Advances command a b w v s start u n)
+    → Serves command b (ahead kept left) v z so_far.read t so_far.said start x (Some status) → (status ≡ statuses.ReadFault → kept ≡ []) → Answers command a left w z start x status
+answered command a b left w v z kept s t start u x n status so_far served none =
+    ended_put command a b left w v z kept s t start u x n served.text served.turn status so_far served.took none served.put
+
+-- the same of a result
+pub answered_past : {X : Type 0} (command : Command) (a b left w v z : Option (List ℕ)) (kept : List ℕ) (s t : State) (start u x : Work) (n : ℕ) (result : Result Status X) (so_far : Advances command a b w v s start u n)
+    → IfOk result (λ status. Serves command b (ahead kept left) v z so_far.read t so_far.said start x (Some status)) → (result ≡ Ok statuses.ReadFault → kept ≡ []) → IfOk result (λ status. Answers command a left w z start x status)
+answered_past {X} command a b left w v z kept s t start u x n (Ok status) so_far served none = answered command a b left w v z kept s t start u x n status so_far served (λ is. none (ap (λ (y : Status). Ok y) is))
+answered_past {X} command a b left w v z kept s t start u x n (Err e) so_far served none = tt
+
+pub stopped_past : {X Y Z : Type 0} (command : Command) (a b w : Option (List ℕ)) (written : Y → Option (List ℕ)) (old new : Y) (s : State) (start u : Work) (n : ℕ) (result : Result Z X) → Advances command a b w (written old) s start u n
+    → OnErr result (new ≡ old) → OnErr result (StopsWithin command a w (written new))
+stopped_past {X} {Y} {Z} command a b w written old new s start u n (Ok z) so_far same = tt
+stopped_past {X} {Y} {Z} command a b w written old new s start u n (Err e) so_far same =
+    subst (λ (y : Y). StopsWithin command a w (written y)) (sym same) (stops_here command a b w (written old) s start u n so_far)

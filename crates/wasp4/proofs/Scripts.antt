@@ -12,6 +12,7 @@ use Rattle.deck_lines.specs.declared.fault.LineKind.TheVariants as kinds
 use Rattle.deck_lines.specs.declared.line.Line.{Line}
 use Rattle.deck_lines.specs.declared.line.Line.TheVariants as lines
 use Rattle.deck_lines.specs.declared.line.Mode.{Mode}
+use Rattle.sim_engine.specs.Engine.{Work}
 use Rattle.wasp_session.specs.Checks.{check_count, open_at}
 use Rattle.wasp_session.specs.Modes.{mode_of}
 use Rattle.wasp_session.specs.Said.{plan_count}
@@ -19,7 +20,7 @@ use Rattle.wasp_session.specs.State.{State}
 use Rattle.wasp_session.specs.declared.command.Command.{Command}
 use Rattle.wasp4.specs.Progress.{Leads}
 use Rattle.wasp4.specs.Script.{Script, ends, line_behind, line_then, script_behind, stated, stops}
-use Rattle.wasp4.specs.Work.{HasRun, Work}
+use Rattle.wasp4.specs.Work.{HasRun}
 
 pub no_end : (command : Command) (read : List Line) → script_behind command read [] ≡ stops read (fault kinds.NoEnd 1)
 unfolding script_behind

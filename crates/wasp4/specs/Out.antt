@@ -4,14 +4,14 @@ use Rattle.std.specs.Str.{bytes_eq}
 use Rattle.deck_lines.specs.declared.line.Line.{Line}
 use Rattle.report_text.specs.Lines.{keys_line}
 use Rattle.report_text.specs.Refusals.{malformed_line}
-use Rattle.sim_engine.specs.Engine.{Run}
+use Rattle.sim_engine.specs.Engine.{Run, Work}
+use Rattle.sim_sweep.specs.Works.{HasWorked}
 use Rattle.wasp_session.specs.Case.{Told}
 use Rattle.wasp_session.specs.Keys.{AreKeys}
 use Rattle.wasp_session.specs.Said.{AreTold}
 use Rattle.wasp_session.specs.declared.command.Command.{Command}
 use Rattle.wasp_session.specs.declared.command.Command.TheVariants as commands
 use Rattle.wasp4.specs.Script.{Malformed, Script}
-use Rattle.wasp4.specs.Work.{HasWorked, Work}
 
 -- the closing: the malformed line, where there is one, and the number of keys
 abbrev pub closing : Option Malformed → ℕ → List ℕ

@@ -1,11 +1,12 @@
 -- How far a script was answered, by the bytes that are ahead and those that were written, where they are told.
 -- This program's own.
-use Rattle.std.specs.Prelude.{◌≡◌, ◌≢◌, ℕ, ◌≤◌, List, [], ◌∷◌, ◌++◌, length, Option, None, Some, IfSome}
+use Rattle.std.specs.Prelude.{◌≡◌, ◌≢◌, ℕ, ◌+◌, ◌≤◌, ◌⊎◌, List, [], ◌∷◌, ◌++◌, length, Option, None, Some, IfSome}
 use Rattle.std.specs.List.{AllByRecursion}
 use Rattle.std.specs.Io.KnownBytes.{Appends, Consumes}
 use Rattle.deck_lines.specs.declared.line.Line.{Line}
 use Rattle.line_reader.specs.Lines.{lines_of, unlines, IsUnbroken}
-use Rattle.sim_engine.specs.Engine.{Run}
+use Rattle.sim_engine.specs.Engine.{Run, Work}
+use Rattle.sim_sweep.specs.Works.{HasWorked}
 use Rattle.wasp_io.specs.Causes.{Rose}
 use Rattle.wasp_session.specs.Case.{Told}
 use Rattle.wasp_session.specs.Keys.{AreKeys}
@@ -20,7 +21,7 @@ use Rattle.wasp4.specs.declared.status.Turn.{Turn}
 use Rattle.wasp4.specs.declared.status.Turn.TheVariants as turns
 use Rattle.wasp4.specs.Out.{IsAnswered, IsFront, usage_text}
 use Rattle.wasp4.specs.Script.{Malformed, Script, script_behind, script_of}
-use Rattle.wasp4.specs.Work.{HasRun, HasWorked, Work}
+use Rattle.wasp4.specs.Work.{HasRun}
 
 abbrev pub status_of : Ending → Status
 status_of endings.Done = statuses.Done
@@ -81,18 +82,58 @@ pub record TakesPart (command : Command) (before now : Option (List ℕ)) (read 
   pub few : (length read ≡ 100000) → part ≡ []
   pub run : HasRun command read s said start work
 
--- the script is over
-pub record EndsIn (command : Command) (before : Option (List ℕ)) (read : List Line) (said : List ℕ) (start work : Work) (ending : Ending) : Type 0 where
+-- what one turn takes at most: a line with its line feed, or bytes of one up to the first that is too many
+pub record IsOneLine (bytes : List ℕ) : Type 0 where
+  pub line : List ℕ
+  pub unbroken : IsUnbroken line
+  pub short : length line ≤ 4097
+  pub is : (bytes ≡ line) ⊎ (bytes ≡ line ++ 10 ∷ [])
+
+-- the script is over: nothing is taken behind the line that ends it, and one byte at most behind the last that it may
+-- have
+pub record EndsIn (command : Command) (before now : Option (List ℕ)) (read : List Line) (said : List ℕ) (start work : Work) (ending : Ending) : Type 0 where
+  pub bytes : List ℕ
+  pub one : IsOneLine bytes
+  pub taken : Consumes before now bytes
+  pub few : (length read ≡ 100000) → length bytes ≤ 1
   pub script : Script
   pub is : IfSome before (λ text. script_behind command read (lines_of text) ≡ script)
   pub answered : IsAnswered script said start work
   pub ends : EndsAs ending script.malformed answered.told.nos
 
--- what one turn did: a part of a line where the source failed
-abbrev pub TurnFrom : Command → Option (List ℕ) → Option (List ℕ) → List Line → State → List ℕ → Work → Work → Option Turn → Type 0
-TurnFrom command before now read s said start work None = TakesPart command before now read s said start work
-TurnFrom command before now read s said start work (Some turns.Goes) = TakesLine command before now read s said start work
-TurnFrom command before now read s said start work (Some (turns.Over ending)) = EndsIn command before read said start work ending
+-- what one turn did, behind what was said before it: a part of a line and no text where the source failed
+abbrev pub TurnFrom : Command → Option (List ℕ) → Option (List ℕ) → List Line → State → List ℕ → List ℕ → Work → Work → Option Turn → Type 0
+TurnFrom command before now read s said text start work None = (text ≡ []) × TakesPart command before now read s said start work
+TurnFrom command before now read s said text start work (Some turns.Goes) = TakesLine command before now read s (said ++ text) start work
+TurnFrom command before now read s said text start work (Some (turns.Over ending)) = EndsIn command before now read (said ++ text) start work ending
+
+-- ---- what is put
+
+-- a front of a text was written, and more of it was to come
+pub record IsCutShort (written written' : Option (List ℕ)) (text : List ℕ) : Type 0 where
+  pub done : List ℕ
+  pub next : ℕ
+  pub rest : List ℕ
+  pub wrote : Appends written written' done
+  pub is : text ≡ done ++ next ∷ rest
+
+-- what was put of a turn's text, and whether the script goes on behind it
+abbrev pub PutAs : Option (List ℕ) → Option (List ℕ) → List ℕ → Option Turn → Option Status → Type 0
+PutAs written written' text turn None = (turn ≡ Some turns.Goes) × Appends written written' text
+PutAs written written' text turn (Some statuses.Done) = (turn ≡ Some (turns.Over endings.Done)) × Appends written written' text
+PutAs written written' text turn (Some statuses.CheckNo) = (turn ≡ Some (turns.Over endings.CheckNo)) × Appends written written' text
+PutAs written written' text turn (Some statuses.Malformed) = (turn ≡ Some (turns.Over endings.Malformed)) × Appends written written' text
+PutAs written written' text turn (Some statuses.ReadFault) = (turn ≡ None) × Appends written written' []
+PutAs written written' text turn (Some statuses.WriteFault) = (turn ≢ None) × IsCutShort written written' text
+PutAs written written' text turn (Some statuses.OutOfMemory) = ⊥
+PutAs written written' text turn (Some statuses.BadWords) = ⊥
+
+-- what serving one line did: exactly its bytes were taken, and then exactly its text was put
+pub record Serves (command : Command) (before now written written' : Option (List ℕ)) (read : List Line) (s : State) (said : List ℕ) (start work : Work) (served : Option Status) : Type 0 where
+  pub text : List ℕ
+  pub turn : Option Turn
+  pub took : TurnFrom command before now read s said text start work turn
+  pub put : PutAs written written' text turn served
 
 -- ---- many turns
 
@@ -140,34 +181,38 @@ pub record StopsBetween (command : Command) (before now written written' : Optio
 abbrev pub StopsWithin : Command → Option (List ℕ) → Option (List ℕ) → Option (List ℕ) → Type 0
 StopsWithin command before written written' = (said : List ℕ) × Appends written written' said × IfSome before (λ text. IsFront (script_of command text) said)
 
+-- a front of the answer was written, and a byte of it was to come
+pub record StopsShort (command : Command) (before written written' : Option (List ℕ)) : Type 0 where
+  pub said : List ℕ
+  pub next : ℕ
+  pub wrote : Appends written written' said
+  pub front : IfSome before (λ text. IsFront (script_of command text) (said ++ next ∷ []))
+
 -- what was taken and written, by the status
 abbrev pub Answers : Command → Option (List ℕ) → Option (List ℕ) → Option (List ℕ) → Option (List ℕ) → Work → Work → Status → Type 0
 Answers command before now written written' start work statuses.Done = Closes command before written written' start work endings.Done
 Answers command before now written written' start work statuses.CheckNo = Closes command before written written' start work endings.CheckNo
 Answers command before now written written' start work statuses.Malformed = Closes command before written written' start work endings.Malformed
 Answers command before now written written' start work statuses.ReadFault = StopsBetween command before now written written' start work
-Answers command before now written written' start work statuses.WriteFault = StopsWithin command before written written'
+Answers command before now written written' start work statuses.WriteFault = StopsShort command before written written'
 Answers command before now written written' start work statuses.OutOfMemory = StopsWithin command before written written'
 Answers command before now written written' start work statuses.BadWords = ⊥
 
--- ---- what is put
+-- ---- edges that do not fail
 
--- what was put of a turn's text, and whether the script goes on behind it
-abbrev pub PutAs : Option (List ℕ) → Option (List ℕ) → List ℕ → Option Turn → Option Status → Type 0
-PutAs written written' text turn None = (turn ≡ Some turns.Goes) × Appends written written' text
-PutAs written written' text turn (Some statuses.Done) = (turn ≡ Some (turns.Over endings.Done)) × Appends written written' text
-PutAs written written' text turn (Some statuses.CheckNo) = (turn ≡ Some (turns.Over endings.CheckNo)) × Appends written written' text
-PutAs written written' text turn (Some statuses.Malformed) = (turn ≡ Some (turns.Over endings.Malformed)) × Appends written written' text
-PutAs written written' text turn (Some statuses.ReadFault) = (turn ≡ None) × Appends written written' text
-PutAs written written' text turn (Some statuses.WriteFault) = (done : List ℕ) × (rest : List ℕ) × Appends written written' done × (text ≡ done ++ rest)
-PutAs written written' text turn (Some statuses.OutOfMemory) = ⊥
-PutAs written written' text turn (Some statuses.BadWords) = ⊥
+-- The bytes that a source has left and those that a sink was given are told, and the sink's sure room holds what was
+-- written before with all that is told of the script's first lines, and with the whole text.
+pub record HasRoomFor (command : Command) (left written : Option (List ℕ)) (room : Option ℕ) : Type 0 where
+  pub bytes : List ℕ
+  pub before : List ℕ
+  pub most : ℕ
+  pub told : left ≡ Some bytes
+  pub wrote : written ≡ Some before
+  pub sure : room ≡ Some most
+  pub fits : (said : List ℕ) → IsFront (script_of command bytes) said → length before + length said ≤ most
 
--- what was written is a front of this text
-abbrev pub IsPrefixWritten : Option (List ℕ) → Option (List ℕ) → List ℕ → Type 0
-IsPrefixWritten written written' text = (said : List ℕ) × (more : List ℕ) × Appends written written' said × (text ≡ said ++ more)
+-- ---- the usage line
 
--- the usage line was written, or a front of it where the sink failed
-pub record SaysUsage (written written' : Option (List ℕ)) (faults faults' : ℕ) : Type 0 where
-  pub front : IsPrefixWritten written written' usage_text
-  pub whole : (Rose faults faults' → ⊥) → Appends written written' usage_text
+-- the usage line was written and no fault counted, or a front of it where the sink failed
+abbrev pub SaysUsage : Option (List ℕ) → Option (List ℕ) → ℕ → ℕ → Type 0
+SaysUsage written written' faults faults' = (Appends written written' usage_text × (faults' ≡ faults)) ⊎ (IsCutShort written written' usage_text × (faults ≤ faults') × Rose faults faults')

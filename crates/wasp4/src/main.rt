@@ -8,6 +8,7 @@
 
 ghost use Rattle.std.specs.Prelude.{◌≡◌};
 
+mod clerk;
 mod laws;
 mod putting;
 mod status;

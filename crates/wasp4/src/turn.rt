@@ -1,5 +1,5 @@
 //! One line of the script, from the source to what it is answered with.
-ghost use Rattle.std.specs.Prelude.{◌≡◌, ◌≢◌, ◌+◌, ◌<◌, ◌≤◌, ◌++◌, [], List, ℕ, IfOk, IfSome, OnOk, Err, None, Ok, Some, if◌then◌else◌, length, slice_get};
+ghost use Rattle.std.specs.Prelude.{◌≡◌, ◌≢◌, ◌+◌, ◌<◌, ◌≤◌, ◌++◌, [], List, ℕ, IfOk, OnOk, Err, None, Ok, Some, if◌then◌else◌, false, length, map};
 ghost use Rattle.wasp_io.specs.Causes.{HasCause};
 ghost use Rattle.line_reader.specs.Reading.{ahead};
 ghost use Rattle.deck_lines.specs.Grammar.{IsLine};
@@ -9,12 +9,13 @@ ghost use Rattle.deck_lines.specs.declared.line.Line.{Line as Stated};
 ghost use Rattle.deck_lines.specs.declared.line.Line.TheVariants as lines;
 ghost use Rattle.report_text.specs.Lines.{keys_line};
 ghost use Rattle.report_text.specs.Refusals.{malformed_line};
+ghost use Rattle.sim_engine.specs.Engine.{Work};
+ghost use Rattle.sim_sweep.specs.Works.{first_work};
 ghost use Rattle.wasp_session.specs.Modes.{IsOfMode, mode_of};
-ghost use Rattle.wasp_session.specs.Steps.{HasCountsLeft};
 ghost use Rattle.wasp_session.specs.declared.command.Command.{Command};
 ghost use Rattle.wasp4.specs.Progress.{AnswersLine, TurnFrom};
 ghost use Rattle.wasp4.specs.Script.{stated, within_counts};
-ghost use Rattle.wasp4.specs.Work.{HasRun, Work, first_work};
+ghost use Rattle.wasp4.specs.Work.{HasRun};
 
 use crate::status::{Ending, Turn};
 use deck_lines::{Line, LineError, LineFault, LineKind, read_line};
@@ -22,6 +23,7 @@ use line_reader::{ByteReader, Found, Next, next_line};
 use report_text::{write_keys, write_malformed};
 use sim_engine::SimEngine;
 use std::alloc::Global;
+use std::thread::Threads;
 use wasp_fixed::OutOfMemory;
 use wasp_io::Source;
 use wasp_session::{Session, Step};
@@ -78,7 +80,8 @@ fn state(alloc: Global, session: &Session, bytes: &[u8]) -> Result<Line, LineErr
 }
 
 /// Answers the bytes of a line in the text.
-fn answer<E: SimEngine>(
+fn answer<E: SimEngine, R: Threads + Sync>(
+    rt: &R,
     alloc: Global,
     session: &mut Session,
     number: u64,
@@ -90,13 +93,12 @@ fn answer<E: SimEngine>(
     requires clear { text.old.items ≡ [] }
     requires some { 1 ≤ length engines.old }
     requires most { length engines.old ≤ 64 }
-    requires counts { IfSome (slice_get engines.old 0) (λ e. HasCountsLeft (E.simulated e) (E.detailed e)) }
     ensures answer { (command : Command) (read : List Stated) (said : List ℕ) (start : Work) → number ≡ length read + 1
-        → HasRun command read session.old said start (first_work (λ e. record { simulated = E.simulated e; detailed = E.detailed e; tape = E.tape e; runs = E.runs e }) engines.old)
-        → IfOk result (λ turn. AnswersLine command read bytes.now session.new (said ++ text.new.items) start (first_work (λ e. record { simulated = E.simulated e; detailed = E.detailed e; tape = E.tape e; runs = E.runs e }) engines.new) turn) }
+        → HasRun command read session.old said start (first_work (map E.work engines.old))
+        → IfOk result (λ turn. AnswersLine command read bytes.now session.new (said ++ text.new.items) start (first_work (map E.work engines.new)) turn) }
 {
     match state(alloc, session, bytes) {
-        Ok(line) => match session.line(line, engines, text)? {
+        Ok(line) => match session.line(rt, line, engines, text)? {
             Step::Go => Ok(Turn::Goes),
             Step::Ended if session.said_no() => Ok(Turn::Over(Ending::CheckNo)),
             Step::Ended => Ok(Turn::Over(Ending::Done)),
@@ -121,7 +123,8 @@ fn refuse_end(session: &Session, number: u64, text: &mut Vec<u8>) -> Result<(), 
 }
 
 /// Reads the line of a number, and answers it in the text. `None` is a source that failed.
-pub(crate) fn turn<E: SimEngine, S: Source>(
+pub(crate) fn turn<E: SimEngine, R: Threads + Sync, S: Source>(
+    rt: &R,
     alloc: Global,
     reader: &mut ByteReader,
     source: &mut S,
@@ -132,19 +135,21 @@ pub(crate) fn turn<E: SimEngine, S: Source>(
     text: &mut Vec<u8>,
 ) -> Result<Option<Turn>, OutOfMemory>
     requires last { number ≤ MOST_LINES }
+    requires source { S.ended source.old ≡ false }
     requires clear { text.old.items ≡ [] }
     requires some { 1 ≤ length engines.old }
     requires most { length engines.old ≤ 64 }
-    requires counts { IfSome (slice_get engines.old 0) (λ e. HasCountsLeft (E.simulated e) (E.detailed e)) }
     ensures turn { (command : Command) (read : List Stated) (said : List ℕ) (start : Work) → number ≡ length read + 1
-        → HasRun command read session.old said start (first_work (λ e. record { simulated = E.simulated e; detailed = E.detailed e; tape = E.tape e; runs = E.runs e }) engines.old)
-        → IfOk result (λ turn. TurnFrom command (ahead reader.old (S.left source.old)) (ahead reader.new (S.left source.new)) read session.new (said ++ text.new.items) start (first_work (λ e. record { simulated = E.simulated e; detailed = E.detailed e; tape = E.tape e; runs = E.runs e }) engines.new) turn) }
+        → HasRun command read session.old said start (first_work (map E.work engines.old))
+        → IfOk result (λ turn. TurnFrom command (ahead reader.old (S.left source.old)) (ahead reader.new (S.left source.new)) read session.new said text.new.items start (first_work (map E.work engines.new)) turn) }
+    ensures source { result ≡ Ok (Some Turn.Goes) → S.ended source.new ≡ false }
     ensures cause { HasCause (S.faults source.old) (S.faults source.new) (result ≡ Ok None) }
+    ensures sure { S.sure source.new ≡ S.sure source.old }
     ensures nothing_kept { result ≡ Ok None → reader.new ≡ [] }
 {
     match next_line(reader, source, line)? {
-        Found::Line => Ok(Some(answer(alloc, session, number, line, engines, text)?)),
-        Found::Last => match answer(alloc, session, number, line, engines, text)? {
+        Found::Line => Ok(Some(answer(rt, alloc, session, number, line, engines, text)?)),
+        Found::Last => match answer(rt, alloc, session, number, line, engines, text)? {
             Turn::Goes => {
                 refuse_end(session, number + 1, text)?;
                 Ok(Some(Turn::Over(Ending::Malformed)))
@@ -174,11 +179,13 @@ pub(crate) fn past_lines<S: Source>(
     session: &Session,
     text: &mut Vec<u8>,
 ) -> Result<Option<Turn>, OutOfMemory>
+    requires source { S.ended source.old ≡ false }
     requires clear { text.old.items ≡ [] }
     ensures turn { (command : Command) (read : List Stated) (said : List ℕ) (start now : Work) → MOST_LINES ≡ length read → HasRun command read session.now said start now
-        → IfOk result (λ turn. TurnFrom command (ahead reader.old (S.left source.old)) (ahead reader.new (S.left source.new)) read session.now (said ++ text.new.items) start now turn) }
+        → IfOk result (λ turn. TurnFrom command (ahead reader.old (S.left source.old)) (ahead reader.new (S.left source.new)) read session.now said text.new.items start now turn) }
     ensures over { result ≢ Ok (Some Turn.Goes) }
     ensures cause { HasCause (S.faults source.old) (S.faults source.new) (result ≡ Ok None) }
+    ensures sure { S.sure source.new ≡ S.sure source.old }
     ensures nothing_kept { result ≡ Ok None → reader.new ≡ [] }
 {
     match reader.next(source) {

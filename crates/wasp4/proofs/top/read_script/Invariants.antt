@@ -1,17 +1,22 @@
-use Rattle.std.proofs.Common.{◌≡◌, ◌≤◌, length}
+use Rattle.std.proofs.Common.{◌≡◌, false, length, map}
 use Rattle.line_reader.specs.Reading.{ahead}
+use Rattle.sim_sweep.specs.Works.{first_work}
 use Rattle.wasp4.specs.Progress.{Advances}
-use Rattle.wasp4.specs.Work.{first_work}
 use Rattle.wasp4.proofs.top.read_script.Given as goal
 
 abbrev pub invariant-loop-number : goal.invariant-loop-number
 invariant-loop-number g l =
     let E = g.E.SimEngine in
+    let S = g.S.Source in
+    let K = g.K.Sink in
     record {
-      so_far : Advances l.fn.command (g.S.Source.left l.fn.source) (ahead l.reader (g.S.Source.left l.source)) (g.K.Sink.written l.fn.sink) (g.K.Sink.written l.sink) l.session
-          (first_work (λ e. record { simulated = E.simulated e; detailed = E.detailed e; tape = E.tape e; runs = E.runs e }) l.fn.engines)
-          (first_work (λ e. record { simulated = E.simulated e; detailed = E.detailed e; tape = E.tape e; runs = E.runs e }) l.engines) l.number;
+      so_far : Advances l.fn.command (S.left l.fn.source) (ahead l.clerk.reader (S.left l.source)) (K.written l.fn.sink) (K.written l.sink) l.clerk.session
+          (first_work (map E.work l.fn.engines)) (first_work (map E.work l.engines)) l.number;
       same : length l.engines ≡ length l.fn.engines;
-      read : g.S.Source.faults l.fn.source ≤ g.S.Source.faults l.source;
-      write : g.K.Sink.faults l.fn.sink ≤ g.K.Sink.faults l.sink;
+      source : S.ended l.source ≡ false;
+      sink : K.failed l.sink ≡ false;
+      read : S.faults l.source ≡ S.faults l.fn.source;
+      write : K.faults l.sink ≡ K.faults l.fn.sink;
+      sure : S.sure l.source ≡ S.sure l.fn.source;
+      sure_room : K.sure_room l.sink ≡ K.sure_room l.fn.sink;
     }
