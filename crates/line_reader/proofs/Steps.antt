@@ -1,9 +1,8 @@
 -- Taking the bytes of a line one after the other.
 use Rattle.std.proofs.Common.{◌≡◌, ◌≢◌, ℕ, ◌<◌, List, [], ◌∷◌, ◌++◌, length, Option, None, Some, refl, sym, ap, ◌∙◌, append_assoc, arith}
-use Rattle.std.proofs.lemmas.List.{append-nil}
 use Rattle.std.proofs.lemmas.Bool.{ne_eqb}
 use Rattle.std.specs.Prelude.{IfSome}
-use Rattle.std.specs.Io.KnownBytes.{Keeps, Consumes, IsAtEnd}
+use Rattle.std.specs.Io.KnownBytes.{Consumes}
 use Rattle.line_reader.specs.declared.lines.Found.{Found}
 use Rattle.line_reader.specs.declared.lines.Found.TheVariants as found
 use Rattle.line_reader.specs.Lines.{onto, lines_of, IsUnbroken}
@@ -22,13 +21,6 @@ Consumes-then None mid now xs ys h k = tt
 Consumes-then (Some a) None now xs ys h k = absurd h
 Consumes-then (Some a) (Some b) None xs ys h k = absurd k
 Consumes-then (Some a) (Some b) (Some c) xs ys h k = h ∙ ap (λ (t : List ℕ). xs ++ t) k ∙ sym (append_assoc xs ys c)
-
--- after these bytes nothing was left
-pub IsLast-from : (before mid now : Option (List ℕ)) (line : List ℕ) → Consumes before mid line → IsAtEnd mid → Keeps mid now → IsLast before now line
-IsLast-from None mid now line h e k = tt
-IsLast-from (Some a) None now line h e k = absurd h
-IsLast-from (Some a) (Some b) None line h e k = absurd k
-IsLast-from (Some a) (Some b) (Some c) line h e k = (h ∙ ap (λ (t : List ℕ). line ++ t) e ∙ append-nil line, k ∙ e)
 
 -- ---- the first line of a text
 

@@ -4,7 +4,7 @@ use Rattle.std.proofs.lemmas.List.{append-nil, append_assoc, length-append}
 use Rattle.std.proofs.lemmas.List.Elements.{All-head, filter_map-append}
 use Rattle.std.proofs.lemmas.Option.{same_Some}
 use Rattle.board_core.specs.declared.row.KeptRow.{KeptRow}
-use Rattle.sim_engine.specs.Engine.{Run, Tape, Tells, TellsToo, Work, raised, with_detail, with_run}
+use Rattle.sim_engine.specs.Engine.{Run, Tape, Tells, TellsToo, Work, raised, with_run}
 use Rattle.sim_engine.proofs.CountSteps.{raised_then}
 use Rattle.wasp_fixed.proofs.Lists.{all_split}
 use Rattle.sim_sweep.specs.Demands.{new_demands, run_in, runs_of}
@@ -58,15 +58,6 @@ worked_then xs ys m n a b c one other = record {
   detailed = other.detailed ∙ (ap (raised n) one.detailed ∙ raised_then m n a.detailed);
   tape = other.tape ∙ one.tape;
   gains = gains_then a.tape a.runs b.runs c.runs xs ys one.gains (subst (λ (t : Option Tape). Gains t b.runs c.runs ys) one.tape other.gains);
-}
-
--- one year in detail
-pub detail_worked : (w v : Work) → v ≡ with_detail w → HasWorked [] 1 w v
-detail_worked w v is = record {
-  simulated = ap (λ (x : Work). x.simulated) is;
-  detailed = ap (λ (x : Work). x.detailed) is;
-  tape = ap (λ (x : Work). x.tape) is;
-  gains = subst (λ (r : Option (List Run)). Gains w.tape w.runs r []) (sym (ap (λ (x : Work). x.runs) is)) (gains_none w.tape w.runs);
 }
 
 -- one run

@@ -1,5 +1,5 @@
 -- Which fault a count of faults rose by, and what cannot fail.
-use Rattle.std.proofs.Common.{◌≡◌, ◌≢◌, ◌∙◌, refl, sym, ap, subst, true≢false, false, is_some, ℕ, ◌+◌, ◌-◌, ◌^◌, ◌<◌, ◌≤◌, min, List, [], ◌∷◌, ◌++◌, length, Option, None, Some, arith}
+use Rattle.std.proofs.Common.{◌≡◌, ◌≢◌, ◌∙◌, refl, sym, ap, subst, true≢false, false, is_some, ℕ, ◌+◌, ◌-◌, ◌<◌, List, [], ◌∷◌, ◌++◌, length, Option, None, Some, arith}
 use Rattle.std.specs.Prelude.{Result, Ok, IfSome, ◌==◌}
 use Rattle.std.proofs.lemmas.List.{length-append}
 use Rattle.std.specs.Io.KnownBytes.{Appends}
@@ -74,10 +74,6 @@ kept_none {X} {P} served status is none fault = none (ap (λ (x : Option Status)
 -- a line behind which the script goes on counted no fault
 pub goes_uncounted : {X : Type 0} (served : Option Status) (fault : Status) (e f g : ℕ) → served ≡ None → f ≡ e → HasCause f g (◌≡◌ {A = Result (Option Status) X} (Ok served) (Ok (Some fault))) → g ≡ e
 goes_uncounted {X} served fault e f g goes same cause = cause.only (λ is. true≢false (sym (ap is_some (sym goes ∙ same_ok is)))) ∙ same
-
--- a count that was the same before
-pub earlier_cause : {P : Type 0} (e f g : ℕ) → f ≡ e → HasCause f g P → HasCause e g P
-earlier_cause {P} e f g same cause = same_cause e f g same (λ p. p) (λ p. p) cause
 
 -- ---- what cannot fail
 

@@ -9,6 +9,7 @@ use Rattle.line_reader.specs.Reading.{ahead}
 use Rattle.sim_engine.specs.Engine.{Work}
 use Rattle.wasp_session.specs.State.{Follows, State}
 use Rattle.wasp_session.specs.declared.command.Command.{Command}
+use Rattle.line_reader.proofs.Steps.{Consumes-none, Consumes-then}
 use Rattle.wasp4.specs.declared.status.Ending.{Ending}
 use Rattle.wasp4.specs.declared.status.Ending.TheVariants as endings
 use Rattle.wasp4.specs.declared.status.Status.{Status}
@@ -20,7 +21,7 @@ use Rattle.wasp4.specs.Progress.{Advances, Answers, Closes, EndsIn, IsCutShort, 
 use Rattle.wasp4.specs.Script.{Script, script_behind}
 use Rattle.wasp4.proofs.Fronts.{told_front, whole_front}
 use Rattle.wasp4.proofs.Running.{run_none}
-use Rattle.wasp4.proofs.Texts.{Consumes-none, Consumes-then, ahead_none, all_push, behind_line, behind_lines, unlines-push}
+use Rattle.wasp4.proofs.Texts.{ahead_none, all_push, behind_line, behind_lines, unlines-push}
 use Rattle.wasp4.proofs.Written.{Appends-none, Appends-then}
 
 -- what is so of all lines is so of those that are told

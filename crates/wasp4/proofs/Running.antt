@@ -1,10 +1,9 @@
 -- One line more: what is said of it, and what is done for it.
-use Rattle.std.proofs.Common.{◌≡◌, ◌∙◌, refl, sym, ap, subst, ℕ, ◌+◌, ◌<◌, ◌≤◌, List, [], ◌∷◌, ◌++◌, length, map, take, drop, Option, arith}
+use Rattle.std.proofs.Common.{◌≡◌, ◌∙◌, refl, ap, subst, ℕ, ◌+◌, ◌≤◌, List, [], ◌∷◌, ◌++◌, length, take, drop, Option, arith}
 use Rattle.deck_check.specs.Readings.{Says}
 use Rattle.deck_lines.specs.Deck.{body_of, deck_at}
 use Rattle.deck_lines.specs.declared.line.Line.{Line}
 use Rattle.sim_engine.specs.Engine.{Run, Work}
-use Rattle.sim_sweep.specs.Works.{first_work}
 use Rattle.sim_sweep.proofs.WorkSteps.{worked_none, worked_then}
 use Rattle.wasp_session.specs.Checks.{Open, open_at}
 use Rattle.wasp_session.specs.Keys.{AreKeys, DemandsOn}
@@ -15,6 +14,7 @@ use Rattle.wasp_session.specs.declared.command.Command.{Command}
 use Rattle.wasp_session.proofs.FollowSteps.{deck_same, keeps_more, keys_more}
 use Rattle.wasp_session.proofs.TellSteps.{goes_on_behind}
 use Rattle.wasp_session.proofs.WorkSteps.{has_worked}
+use Rattle.wasp_session.proofs.SessionSteps.{no_keys}
 use Rattle.wasp4.specs.Out.{IsAnswered, closing}
 use Rattle.wasp4.specs.Script.{Malformed}
 use Rattle.wasp4.specs.Work.{HasRun}
@@ -71,12 +71,6 @@ pub none_of : (keys : List Run) → AreKeys [] keys → keys ≡ []
 none_of [] are = refl
 none_of (key ∷ keys) are = absurd ((are.each key).0 (0, omega arith, refl))
 
-no_keys : AreKeys [] []
-no_keys = record {
-  once = λ i j d before within. absurd (omega (arith, within));
-  each = λ key. (λ has. absurd (let w = has.1 in omega (arith, w)), λ none. absurd none);
-}
-
 -- before the first line
 pub run_none : (command : Command) (s : State) (w : Work) → s.command ≡ command → s.nos ≡ 0 → Follows [] s → HasRun command [] s [] w w
 run_none command s w same nos follows = record {
@@ -96,14 +90,6 @@ run_none command s w same nos follows = record {
 }
 
 -- ---- the first of some engines, lent alone
-
-pub first_front : {X : Type 0} (work : X → Work) (xs ys : List X) → 1 ≤ length xs → first_work (map work (xs ++ ys)) ≡ first_work (map work xs)
-first_front {X} work [] ys some = absurd (omega (arith, some))
-first_front {X} work (x ∷ xs) ys some = refl
-
-pub first_alone : {X : Type 0} (work : X → Work) (xs : List X) → first_work (map work (take 1 xs)) ≡ first_work (map work xs)
-first_alone {X} work [] = refl
-first_alone {X} work (x ∷ xs) = refl
 
 pub others_stay : {X : Type 0} (xs ys : List X) → length xs ≡ 1 → drop 1 (xs ++ ys) ≡ ys
 others_stay {X} [] ys e = absurd (omega (arith, e))

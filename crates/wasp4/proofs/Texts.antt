@@ -29,16 +29,6 @@ lines_of_unlines (line ∷ lines) rest h =
 
 -- ---- bytes that are taken
 
-pub Consumes-none : (a : Option (List ℕ)) → Consumes a a []
-Consumes-none None = tt
-Consumes-none (Some a) = refl
-
-pub Consumes-then : (a b c : Option (List ℕ)) (xs ys : List ℕ) → Consumes a b xs → Consumes b c ys → Consumes a c (xs ++ ys)
-Consumes-then None b c xs ys h k = tt
-Consumes-then (Some a) None c xs ys h k = absurd h
-Consumes-then (Some a) (Some b) None xs ys h k = absurd k
-Consumes-then (Some a) (Some b) (Some c) xs ys h k = h ∙ ap (λ (t : List ℕ). xs ++ t) k ∙ sym (append_assoc xs ys c)
-
 pub ahead_none : (left : Option (List ℕ)) (kept : List ℕ) → kept ≡ [] → ahead kept left ≡ left
 ahead_none None kept e = refl
 ahead_none (Some left) kept e = ap (λ (t : List ℕ). Some (t ++ left)) e

@@ -23,7 +23,7 @@ mod PlanSteps
 mod PrintSteps
 mod ReportSteps
 mod ResultSteps
-mod SessionSteps
+pub mod SessionSteps
 mod SettleSteps
 pub mod TellSteps
 pub mod WorkSteps

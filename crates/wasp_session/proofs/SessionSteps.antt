@@ -39,7 +39,7 @@ none_kept = record {
   many = refl;
 }
 
-no_keys : AreKeys [] []
+pub no_keys : AreKeys [] []
 no_keys = record {
   once = λ i j d before within. absurd (omega (arith, within));
   each = λ key. (λ has. absurd (let w = has.1 in omega (arith, w)), λ none. absurd none);
