@@ -1,5 +1,5 @@
 -- One line more: what is said of it, and what is done for it.
-use Rattle.std.proofs.Common.{◌≡◌, ◌∙◌, refl, sym, ap, subst, ℕ, ◌+◌, ◌<◌, ◌≤◌, List, [], ◌∷◌, ◌++◌, length, map, take, drop, Option, arith}
+use Rattle.std.proofs.Common.{◌≡◌, ◌∙◌, refl, ap, subst, ℕ, ◌≤◌, List, [], ◌∷◌, ◌++◌, length, map, take, drop, Option, arith}
 use Rattle.deck_check.specs.Readings.{Says}
 use Rattle.deck_lines.specs.Deck.{body_of, deck_at}
 use Rattle.deck_lines.specs.declared.line.Line.{Line}

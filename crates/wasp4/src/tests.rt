@@ -183,7 +183,6 @@ fn other_words_get_the_usage_line(rt: HostRuntime) -> Result<(), Fail> {
     Ok(())
 }
 
-
 /// Where no call is to fail and the sink has room for the text, neither fault can come.
 #[test]
 fn sure_edges_never_fail(rt: HostRuntime) -> Result<(), Fail> {
