@@ -1,14 +1,12 @@
 -- A sink's room for what the script of one END is answered with.
-use Rattle.std.proofs.Common.{◌≡◌, ◌∙◌, refl, sym, ap, subst, ⊎_elim, ℕ, ◌+◌, ◌≤◌, List, [], ◌∷◌, ◌++◌, length, Option, None, Some, codes, arith}
+use Rattle.std.proofs.Common.{◌≡◌, ◌∙◌, refl, sym, ap, subst, ⊎_elim, ℕ, ◌≤◌, List, [], ◌∷◌, ◌++◌, length, Option, Some, codes, arith}
 use Rattle.std.proofs.lemmas.Fmt.{decimal_digit}
 use Rattle.std.proofs.lemmas.List.{length-append}
 use Rattle.deck_lines.specs.Grammar.{line_of}
 use Rattle.deck_lines.specs.declared.line.Line.{Line}
 use Rattle.report_text.specs.Lines.{keys_line}
-use Rattle.sim_engine.specs.Engine.{Run}
 use Rattle.wasp_session.specs.Case.{Told}
-use Rattle.wasp_session.specs.Keys.{AreKeys}
-use Rattle.wasp_session.specs.Said.{AreTold, nothing}
+use Rattle.wasp_session.specs.Said.{AreTold}
 use Rattle.wasp_session.specs.declared.command.Command.TheVariants as commands
 use Rattle.wasp4.specs.Out.{IsFront, IsToldFront, IsWholeFront}
 use Rattle.wasp4.specs.Progress.{HasRoomFor}

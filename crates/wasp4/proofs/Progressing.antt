@@ -17,7 +17,7 @@ use Rattle.wasp4.specs.declared.status.Status.TheVariants as statuses
 use Rattle.wasp4.specs.declared.status.Turn.{Turn}
 use Rattle.wasp4.specs.declared.status.Turn.TheVariants as turns
 use Rattle.wasp4.specs.Out.{IsFront}
-use Rattle.wasp4.specs.Progress.{Advances, Answers, Closes, EndsIn, IsCutShort, PutAs, Serves, StopsBetween, StopsShort, StopsWithin, TakesLine, TakesPart, TurnFrom}
+use Rattle.wasp4.specs.Progress.{Advances, Answers, Closes, EndsIn, IsCutShort, PutAs, Serves, StopsBetween, StopsShort, StopsWithin, TakesLine, TurnFrom}
 use Rattle.wasp4.specs.Script.{Script, script_behind}
 use Rattle.wasp4.proofs.Fronts.{told_front, whole_front}
 use Rattle.wasp4.proofs.Running.{run_none}

@@ -1,4 +1,4 @@
-use Rattle.std.proofs.Common.{◌≡◌, ◌∙◌, refl, arith, ap, Ok, Option, Some}
+use Rattle.std.proofs.Common.{◌≡◌, ◌∙◌, refl, arith, ap, Ok, Option}
 use Rattle.std.proofs.lemmas.Result.{err_from_is_err_and}
 use Rattle.wasp4.specs.declared.status.Status.{Status}
 use Rattle.wasp4.specs.declared.status.Status.TheVariants as statuses

@@ -1,4 +1,4 @@
-use Rattle.std.proofs.Common.{[], ◌∷◌, arith}
+use Rattle.std.proofs.Common.{[], arith}
 use Rattle.deck_lines.specs.LineFault.{fault}
 use Rattle.deck_lines.specs.declared.fault.LineKind.TheVariants as kinds
 use Rattle.wasp4.proofs.Refusing.{at_end, byte_part, consumes_none, line_part, no_byte, one_byte, refused}
