@@ -39,12 +39,7 @@ impl Certificate {
     /// The certificate of these parts: what is named in each of the years, 1 to 30, in rising order of the
     /// configurations, each of `width` counts, 1 to 14, with none or an entry below 10^18; and what is claimed over
     /// the same years and counts. It takes no memory.
-    pub fn new(
-        years: u64,
-        width: usize,
-        entries: Vec<Listed<Named>>,
-        claim: Outcome,
-    ) -> Certificate
+    pub fn new(years: u64, width: usize, entries: Vec<Listed<Named>>, claim: Outcome) -> Certificate
         requires { IsCertificate (record { years = years; width = width; entries = entries.items; claim = claim }) }
         ensures { result ≡ record { years = years; width = width; entries = entries.items; claim = claim } }
     {

@@ -7,8 +7,6 @@
 #[cfg(test)]
 mod blocks;
 #[cfg(test)]
-mod costs;
-#[cfg(test)]
 mod curves;
 #[cfg(test)]
 mod decks;

@@ -6,7 +6,7 @@ ghost use Rattle.year_system.specs.System.{IsSystem, greatest};
 use plant_data::{Config, Group, Listed, Load, Margin, Plant, Point, Rule, Shape, Tunnel, Water};
 use std::alloc::{AllocError, Global};
 use std::test::Fail;
-use tunnel_configs::{ConfigsError, configs};
+use tunnel_configs::configs;
 use year_system::YearSystem;
 
 /// A candidate of 1 MW.
@@ -81,30 +81,6 @@ fn two_candidates(alloc: Global) -> Result<YearSystem, AllocError>
     year_of(alloc, loads, thermal, Vec::new(alloc))
 }
 
-/// Four candidates in such a year.
-fn four_candidates(alloc: Global) -> Result<YearSystem, AllocError>
-    ensures { IfOk result (λ s. greatest s ≡ 32 ∷ 32 ∷ 32 ∷ 32 ∷ []) }
-{
-    let mut loads = Vec::new(alloc);
-    loads.push(flat(alloc, 100)?)?;
-    let thermal = vec![in alloc;
-        SMALL,
-        Plant {
-            number: 42,
-            ..SMALL
-        },
-        Plant {
-            number: 43,
-            ..SMALL
-        },
-        Plant {
-            number: 44,
-            ..SMALL
-        },
-    ]?;
-    year_of(alloc, loads, thermal, Vec::new(alloc))
-}
-
 /// Two periods with peaks of 100 and 90 MW, a thermal candidate, and two hydro projects that give 60 and 40
 /// MW, and 0 and 10.
 fn two_seasons(alloc: Global) -> Result<YearSystem, AllocError>
@@ -155,75 +131,6 @@ fn pair(first: u64, second: u64) -> Config
     config.set(0, first);
     config.set(1, second);
     config
-}
-
-/// The same count of each of four candidates.
-fn four(count: u64) -> Config
-    requires { count ≤ 128 }
-    ensures { result ≡ count ∷ count ∷ count ∷ count ∷ [] }
-{
-    let mut config = Config::zero(4);
-    config.set(0, count);
-    config.set(1, count);
-    config.set(2, count);
-    config.set(3, count);
-    config
-}
-
-#[test]
-fn five_hundred_configurations_are_listed(rt: HostRuntime) -> Result<(), Fail> {
-    let system = two_candidates(rt.alloc())?;
-    let tunnel = Tunnel {
-        least: pair(0, 0),
-        width: pair(24, 19),
-    };
-    let margin = Margin {
-        low: 0,
-        high: 100_000,
-    };
-    let listed = configs(rt.alloc(), &system, &tunnel, &margin)?;
-    assert!(rt; listed.len() == 500);
-    assert!(rt; listed[0] == pair(0, 0) && listed[1] == pair(0, 1) && listed[20] == pair(1, 0));
-    assert!(rt; listed[499] == pair(24, 19));
-    Ok(())
-}
-
-#[test]
-fn a_list_above_five_hundred_is_refused(rt: HostRuntime) -> Result<(), Fail> {
-    let system = two_candidates(rt.alloc())?;
-    let tunnel = Tunnel {
-        least: pair(0, 0),
-        width: pair(23, 20),
-    };
-    let wide = Margin {
-        low: 0,
-        high: 4_100,
-    };
-    let refused = configs(rt.alloc(), &system, &tunnel, &wide);
-    assert!(rt; matches!(refused, Err(ConfigsError::TooMany(501))));
-    let narrow = Margin {
-        low: 0,
-        high: 4_000,
-    };
-    let listed = configs(rt.alloc(), &system, &tunnel, &narrow)?;
-    assert!(rt; listed.len() == 498);
-    Ok(())
-}
-
-#[test]
-fn a_tunnel_above_a_million_is_refused(rt: HostRuntime) -> Result<(), Fail> {
-    let system = four_candidates(rt.alloc())?;
-    let tunnel = Tunnel {
-        least: four(0),
-        width: four(32),
-    };
-    let margin = Margin {
-        low: 0,
-        high: 100_000,
-    };
-    let refused = configs(rt.alloc(), &system, &tunnel, &margin);
-    assert!(rt; matches!(refused, Err(ConfigsError::TooWide(1_185_921))));
-    Ok(())
 }
 
 #[test]
