@@ -1,5 +1,6 @@
 -- What the steps of a PLAN hand on: the systems of the years, the listed configurations of cases and years, the
--- systems' numbers in the book, and the demands. This program's own.
+-- systems' numbers in the book, and the demands; and what a line does to the book and to the kept rows. This program's
+-- own.
 use Rattle.std.specs.Prelude.{◌≡◌, ◌≢◌, ℕ, ◌+◌, ◌<◌, ◌≤◌, ◌⊎◌, AllPairs, Contains, List, [], ◌++◌, length, map, Option, None, Some, slice_get, slice_index, All}
 use Rattle.std.specs.List.{flat_map, zip}
 use Rattle.deck_check.specs.Readings as says

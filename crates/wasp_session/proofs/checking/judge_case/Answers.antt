@@ -12,7 +12,7 @@ use Rattle.wasp_session.proofs.checking.judge_case.Goals as goal
 pub fill_case-requires-clause-numbers : goal.fill_case-requires-clause-numbers
 fill_case-requires-clause-numbers g c κs outlives =
     rw c.deref-2.ensures.value
-    (has_years (body_of c.args.typed.now) c.intern_all.new.book c.args.systems.items c.intern_all.new.ids.items c.requires.systems c.in_ok-intern_all.ensures.ids)
+    (has_years (body_of c.args.typed.now) c.intern_all-interned.new.book c.args.systems.items c.intern_all-interned.new.ids.items c.requires.systems c.in_ok-interned.ensures.ids)
 
 pub fill_case-requires-clause-room : goal.fill_case-requires-clause-room
 fill_case-requires-clause-room g c κs outlives =
@@ -23,40 +23,43 @@ fill_case-requires-clause-room g c κs outlives =
 pub judge_settled-requires-clause-numbers : goal.judge_settled-requires-clause-numbers
 judge_settled-requires-clause-numbers g c =
     rw c.deref-3.ensures.value
-    (has_years (body_of c.args.typed.now) c.intern_all.new.book c.args.systems.items c.intern_all.new.ids.items c.requires.systems c.in_ok-intern_all.ensures.ids)
+    (has_years (body_of c.args.typed.now) c.intern_all-interned.new.book c.args.systems.items c.intern_all-interned.new.ids.items c.requires.systems c.in_ok-interned.ensures.ids)
+
+pub judge_settled-requires-clause-filled : goal.judge_settled-requires-clause-filled
+judge_settled-requires-clause-filled g c = rw c.deref-3.ensures.value (rw c.deref-2.ensures.value at c.in_ok-fill_case.ensures.filled)
 
 pub returns-clause-keys : goal.returns-clause-keys
 returns-clause-keys g c =
     let e = g.E.SimEngine in
-    let keys = simulates_since (IsCaseKeyOf (body_of c.args.typed.now) c.args.case) c.args.book.now c.intern_all.new.book c.args.systems.items c.args.kept.now c.fill_case.new.kept
+    let keys = simulates_since (IsCaseKeyOf (body_of c.args.typed.now) c.args.case) c.args.book.now c.intern_all-interned.new.book c.args.systems.items c.args.kept.now c.fill_case.new.kept
     (e.work c.args.engine.now) (e.work c.ready.new.self) (e.work c.fill_case.new.engine) (e.work c.fill_case.new.engine)
-    c.intern_all.ensures.grown c.len-systems.ensures.valid c.requires.due c.ready.ensures.work (details_none (e.work c.fill_case.new.engine)) c.in_ok-fill_case.ensures.keys in
+    c.intern_all-interned.ensures.grown c.len-systems.ensures.valid c.requires.due c.ready.ensures.work (details_none (e.work c.fill_case.new.engine)) c.in_ok-fill_case.ensures.keys in
     IfOk-weaker c.judge_settled.result _ _ (λ verdict judged. keys) c.judge_settled.ensures
 
-pub returns-in_err-intern_all-clause-grows : goal.returns-in_err-intern_all-clause-grows
-returns-in_err-intern_all-clause-grows g c =
+pub returns-in_err-interned-clause-grows : goal.returns-in_err-interned-clause-grows
+returns-in_err-interned-clause-grows g c =
     let d = body_of c.args.typed.now in
     let demanded = IsCaseKeyOf d c.args.case in
-    let now = c.intern_all.new.book in
-    grows_since d demanded c.args.book.now now c.args.systems.items c.args.kept.now c.args.kept.now c.requires.systems c.intern_all.ensures.grown c.len-systems.ensures.valid c.requires.due
+    let now = c.intern_all-interned.new.book in
+    grows_since d demanded c.args.book.now now c.args.systems.items c.args.kept.now c.args.kept.now c.requires.systems c.intern_all-interned.ensures.grown c.len-systems.ensures.valid c.requires.due
     (grows_same d demanded now now c.args.kept.now c.args.kept.now refl refl)
 
 pub returns-in_err-ready-clause-grows : goal.returns-in_err-ready-clause-grows
 returns-in_err-ready-clause-grows g c =
     let d = body_of c.args.typed.now in
     let demanded = IsCaseKeyOf d c.args.case in
-    let now = c.intern_all.new.book in
-    grows_since d demanded c.args.book.now now c.args.systems.items c.args.kept.now c.args.kept.now c.requires.systems c.intern_all.ensures.grown c.len-systems.ensures.valid c.requires.due
+    let now = c.intern_all-interned.new.book in
+    grows_since d demanded c.args.book.now now c.args.systems.items c.args.kept.now c.args.kept.now c.requires.systems c.intern_all-interned.ensures.grown c.len-systems.ensures.valid c.requires.due
     (grows_same d demanded now now c.args.kept.now c.args.kept.now refl refl)
 
 pub returns-in_err-fill_case-clause-grows : goal.returns-in_err-fill_case-clause-grows
 returns-in_err-fill_case-clause-grows g c =
     let d = body_of c.args.typed.now in
-    grows_since d (IsCaseKeyOf d c.args.case) c.args.book.now c.intern_all.new.book c.args.systems.items c.args.kept.now c.fill_case.new.kept c.requires.systems c.intern_all.ensures.grown c.len-systems.ensures.valid c.requires.due
+    grows_since d (IsCaseKeyOf d c.args.case) c.args.book.now c.intern_all-interned.new.book c.args.systems.items c.args.kept.now c.fill_case.new.kept c.requires.systems c.intern_all-interned.ensures.grown c.len-systems.ensures.valid c.requires.due
     c.fill_case.ensures.grows
 
 pub returns-clause-grows : goal.returns-clause-grows
 returns-clause-grows g c =
     let d = body_of c.args.typed.now in
-    grows_since d (IsCaseKeyOf d c.args.case) c.args.book.now c.intern_all.new.book c.args.systems.items c.args.kept.now c.fill_case.new.kept c.requires.systems c.intern_all.ensures.grown c.len-systems.ensures.valid c.requires.due
+    grows_since d (IsCaseKeyOf d c.args.case) c.args.book.now c.intern_all-interned.new.book c.args.systems.items c.args.kept.now c.fill_case.new.kept c.requires.systems c.intern_all-interned.ensures.grown c.len-systems.ensures.valid c.requires.due
     c.fill_case.ensures.grows

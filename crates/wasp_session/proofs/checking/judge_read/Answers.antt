@@ -40,11 +40,19 @@ returns-in-Ok-clause-refused g c =
     let checked = is_checked d o c.args.certificate.now c.in-Ok.lists c.years-years.ensures.valid.faultless c.readings_are_one.ensures c.requires.case c.requires.said (rw c.case-case.ensures.value at c.in-Ok.ensures.lists) in
     λ none. absurd (none checked)
 
-pub returns-in_err-judge_case-clause-grows : goal.returns-in_err-judge_case-clause-grows
-returns-in_err-judge_case-clause-grows g c = returns-in-Ok-clause-grows g c
+pub returns-in_err-verdict-in-Ok-clause-grows : goal.returns-in_err-verdict-in-Ok-clause-grows
+returns-in_err-verdict-in-Ok-clause-grows g c =
+    let d = body_of c.args.typed.now in
+    let o = c.args.opened.now in
+    let checked = is_checked d o c.args.certificate.now c.in-Ok.lists c.years-years.ensures.valid.faultless c.readings_are_one.ensures c.requires.case c.requires.said (rw c.case-case.ensures.value at c.in-Ok.ensures.lists) in
+    grows_as d (IsCaseKeyOf d o.case) (DemandsChecked d o) c.args.book.now c.judge_case.new.book c.args.kept.now c.judge_case.new.kept (λ key is. (checked, is)) (rw c.case-case.ensures.value at c.judge_case.ensures.grows)
 
-pub returns-in_err-judge_case-clause-refused : goal.returns-in_err-judge_case-clause-refused
-returns-in_err-judge_case-clause-refused g c = returns-in-Ok-clause-refused g c
+pub returns-in_err-verdict-in-Ok-clause-refused : goal.returns-in_err-verdict-in-Ok-clause-refused
+returns-in_err-verdict-in-Ok-clause-refused g c =
+    let d = body_of c.args.typed.now in
+    let o = c.args.opened.now in
+    let checked = is_checked d o c.args.certificate.now c.in-Ok.lists c.years-years.ensures.valid.faultless c.readings_are_one.ensures c.requires.case c.requires.said (rw c.case-case.ensures.value at c.in-Ok.ensures.lists) in
+    λ none. absurd (none checked)
 
 pub returns-clause-judged : goal.returns-clause-judged
 returns-clause-judged g c =

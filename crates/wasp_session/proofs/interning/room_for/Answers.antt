@@ -25,6 +25,6 @@ returns-clause-room c = room_all c.args.systems.now c.loop-system.system-index c
 
 pub returns-clause-least : goal.returns-clause-least
 returns-clause-least c = (
-    greatest_all cells c.args.systems.now c.loop-system.system-index c.loop-system.cells (omega arith) c.loop-system.invariant.least_cells,
-    greatest_all unit_limit c.args.systems.now c.loop-system.system-index c.loop-system.units (omega arith) c.loop-system.invariant.least_units,
+  greatest_all cells c.args.systems.now c.loop-system.system-index c.loop-system.cells (omega arith) c.loop-system.invariant.least_cells,
+  greatest_all unit_limit c.args.systems.now c.loop-system.system-index c.loop-system.units (omega arith) c.loop-system.invariant.least_units,
 )

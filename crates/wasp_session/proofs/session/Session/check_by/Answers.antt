@@ -5,7 +5,7 @@ use Rattle.wasp_session.specs.Said.{IsCheckTold, TellsAll}
 use Rattle.wasp_session.specs.State.{State}
 use Rattle.wasp_session.specs.Steps.{GrowsBy, Simulates}
 use Rattle.wasp_session.proofs.GrowSteps.{grows_same}
-use Rattle.wasp_session.proofs.SessionSteps.{checked_grows, checked_refused, checked_simulates, none_simulates, none_told, verdict_told}
+use Rattle.wasp_session.proofs.SessionSteps.{checked_grows, checked_refused, checked_simulates, none_simulates, none_told, rows_grow, verdict_told}
 use Rattle.wasp_session.proofs.session.Session.check_by.Goals as goal
 
 pub returns-in_default-clause-told : goal.returns-in_default-clause-told
@@ -68,3 +68,24 @@ returns-clause-refused g c =
     let some : c.self.inside.opened ≡ Some c.in-Some.opened = sym c.take.ensures.value ∙ c.in-Some.is in
     subst (λ (s : State). (IsCheckedAtEnd (body_of s.deck) s.opened → ⊥) → (now.book ≡ s.book) × (now.kept ≡ s.kept)) c.self.view_is
     (checked_refused (body_of i.deck) i.opened c.in-Some.opened ((now.book ≡ i.book) × (now.kept ≡ i.kept)) some c.judge_deck.ensures.refused)
+
+pub returns-in_err-judged-clause-grows : goal.returns-in_err-judged-clause-grows
+returns-in_err-judged-clause-grows g c =
+    let now = c.judge_deck.new in
+    let i = c.self.inside in
+    let some : c.self.inside.opened ≡ Some c.in-Some.opened = sym c.take.ensures.value ∙ c.in-Some.is in
+    subst (λ (s : State). GrowsBy (body_of s.deck) (DemandsAtEnd (body_of s.deck) s.opened) s.book s.kept now.book now.kept) c.self.view_is
+    (checked_grows (body_of i.deck) i.opened c.in-Some.opened i.book now.book i.kept now.kept some c.judge_deck.ensures.grows)
+
+pub returns-in_err-write_verdict-clause-grows : goal.returns-in_err-write_verdict-clause-grows
+returns-in_err-write_verdict-clause-grows g c =
+    let now = c.judge_deck.new in
+    let i = c.self.inside in
+    let some : c.self.inside.opened ≡ Some c.in-Some.opened = sym c.take.ensures.value ∙ c.in-Some.is in
+    subst (λ (s : State). GrowsBy (body_of s.deck) (DemandsAtEnd (body_of s.deck) s.opened) s.book s.kept now.book now.kept) c.self.view_is
+    (checked_grows (body_of i.deck) i.opened c.in-Some.opened i.book now.book i.kept now.kept some c.judge_deck.ensures.grows)
+
+pub returns-then-self-clause-grows : goal.returns-then-self-clause-grows
+returns-then-self-clause-grows g c =
+    let s : State = c.args.self.now in
+    rows_grow (body_of s.deck) (DemandsAtEnd (body_of s.deck) s.opened) s s (refl, refl)

@@ -204,6 +204,11 @@ returns-in_ok-check-in-EndCheck-clause-keys g c =
 
 -- ---- the book and the rows
 
+pub returns-then-self-clause-grows : goal.returns-then-self-clause-grows
+returns-then-self-clause-grows g c =
+    let s : State = c.args.self.now in
+    rows_grow (body_of s.deck) (DemandsOn (body_of s.deck) s.opened c.args.line) s s (refl, refl)
+
 pub returns-in_ok-edit-in-Set-clause-grows : goal.returns-in_ok-edit-in-Set-clause-grows
 returns-in_ok-edit-in-Set-clause-grows g c =
     let s : State = c.args.self.now in
