@@ -19,13 +19,17 @@ fn fill_ones(to: usize, out: &mut [u32])
 }
 
 /// Writes the means of the cells from `from` up to, and without, `to`, each with the cell `capacity` places on.
+///
+/// Never inlined: where both halves of the share come as 32-bit numbers, each of their products is one instruction
+/// of the vector unit, but four where the compiler moves them, widened, out of the loop.
+#[inline(never)]
 fn mix_cells(share: Share, capacity: usize, from: usize, to: usize, cells: &[u32], out: &mut [u32])
     requires order { from ≤ to }
     requires within { to ≤ length cells.now - capacity }
     requires room { to ≤ length out.old }
     requires falls { NeverRises (cell cells.now) }
     requires most { IsAtMostOne (cell cells.now) }
-    ensures value { (x : ℕ) → from ≤ x → x < to → cell out.new x ≡ two_states share.rate (cell cells.now (x + capacity)) (cell cells.now x) / M }
+    ensures value { (x : ℕ) → from ≤ x → x < to → cell out.new x ≡ shifted_step (cell cells.now) capacity share.rate x }
     ensures kept { (x : ℕ) → x < from → cell out.new x ≡ cell out.old x }
 {
     for x in from..to {
@@ -33,7 +37,9 @@ fn mix_cells(share: Share, capacity: usize, from: usize, to: usize, cells: &[u32
     }
 }
 
-/// Writes the means of the cells from `from` up to, and without, `to`, each with none.
+/// Writes the means of the cells from `from` up to, and without, `to`, each with none. Never inlined, for the same
+/// reason.
+#[inline(never)]
 fn scale_cells(share: Share, from: usize, to: usize, cells: &[u32], out: &mut [u32])
     requires order { from ≤ to }
     requires within { to ≤ length cells.now }
