@@ -14,9 +14,17 @@ pub record KeptView : Type 0 where
   pub room : ℕ
   pub places : ℕ
 
--- it stands behind its own units, if it has any
+-- what is kept stands behind the first n units of a list
+abbrev pub StandsKept : (ℕ → ℕ) → List Turn → ℕ → KeptView → Type 0
+StandsKept base turns n k = Stands base turns n k.cells k.lower k.upper
+
+-- it stands behind its own units
+abbrev pub StandsBehind : (ℕ → ℕ) → KeptView → Type 0
+StandsBehind base k = StandsKept base k.turns (length k.turns) k
+
+-- that, if it has any
 abbrev pub IsKept : (ℕ → ℕ) → KeptView → Type 0
-IsKept base k = 0 < length k.turns → Stands base k.turns (length k.turns) k.cells k.lower k.upper
+IsKept base k = 0 < length k.turns → StandsBehind base k
 
 -- what is kept past the last
 abbrev pub no_kept : KeptView

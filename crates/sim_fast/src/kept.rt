@@ -1,8 +1,8 @@
 //! What is kept behind the beginning of a list of units.
 ghost use Rattle.std.specs.Prelude.{◌≡◌, ℕ, ◌+◌, ◌<◌, ◌≤◌, [], IsTrue, IfOk, length, take};
 ghost use Rattle.wasp_fixed.specs.Curves.{cell};
-ghost use Rattle.sim_fast.specs.Turns.{KeepsBench, Stands, StandsAt};
-ghost use Rattle.sim_fast.specs.Kept.{IsKept};
+ghost use Rattle.sim_fast.specs.Kept.{StandsBehind, StandsKept};
+ghost use Rattle.sim_fast.specs.Turns.{StandsAt};
 
 use crate::tail::Tail;
 use crate::turn::{MAX_UNITS, Turn, begins_with, copy_turns};
@@ -98,7 +98,7 @@ impl Kept {
     pub fn put_into(&self, bench: &mut Workbench)
         requires room { self.now.room ≤ bench.old.room }
         requires places { self.now.places ≤ bench.old.places }
-        ensures stands { (base : ℕ → ℕ) → Stands base self.now.turns (length self.now.turns) self.now.cells self.now.lower self.now.upper → StandsAt base self.now.turns (length self.now.turns) bench.new }
+        ensures stands { (base : ℕ → ℕ) → StandsBehind base self.now → StandsAt base self.now.turns (length self.now.turns) bench.new }
         ensures room { bench.new.room ≡ bench.old.room }
         ensures places { bench.new.places ≡ bench.old.places }
     {
@@ -118,7 +118,7 @@ impl Kept {
         requires places { length turns.now ≤ self.old.places }
         requires bench_places { length turns.now ≤ bench.now.places }
         ensures turns { self.new.turns ≡ take n turns.now }
-        ensures stands { (base : ℕ → ℕ) → StandsAt base turns.now n bench.now → Stands base turns.now n self.new.cells self.new.lower self.new.upper }
+        ensures stands { (base : ℕ → ℕ) → StandsAt base turns.now n bench.now → StandsKept base turns.now n self.new }
         ensures room { self.new.room ≡ self.old.room }
         ensures places { self.new.places ≡ self.old.places }
     {

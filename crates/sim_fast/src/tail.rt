@@ -26,13 +26,13 @@ impl Model for Tail {
     ghost use Rattle.std.specs.Prelude.{◌≡◌, ℕ, ◌<◌, ◌≤◌, length, take};
     ghost use Rattle.wasp_fixed.specs.Curves.{cell, IsAtMostOne, NeverRises};
     ghost use Rattle.wasp_fixed.specs.declared.numbers.TheConstants.{ONE};
-    ghost use Rattle.sim_fast.specs.TailView.{TailView};
+    ghost use Rattle.sim_fast.specs.TailView.{IsHeld, TailView};
 
     ghost Value = { TailView };
 
     ghost view = { λ t. record { cells = take t.used t.held.items; room = length t.held.items } };
 
-    ghost invariant = { λ t. (t.used ≤ length t.held.items) × (length t.held.items ≤ 65536) × NeverRises (cell (take t.used t.held.items)) × IsAtMostOne (cell (take t.used t.held.items)) × (t.ones ≤ t.used) × ((x : ℕ) → x < t.ones → cell (take t.used t.held.items) x ≡ ONE) };
+    ghost invariant = { λ t. IsHeld t.held.items t.used t.ones };
 }
 
 impl Tail {
