@@ -1,0 +1,4 @@
+pub mod Behind
+pub mod Kept
+pub mod TailView
+pub mod Turns
