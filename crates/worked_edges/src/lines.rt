@@ -1,7 +1,8 @@
+//! The lines of a source, in any pieces.
 ghost use Rattle.std.specs.Prelude.{◌≡◌, IfOk, false};
 ghost use Rattle.line_reader.specs.Reading.{is_final};
 
-use crate::{ByteReader, Found, next_line};
+use line_reader::{ByteReader, Found, next_line};
 use std::alloc::Global;
 use std::test::Fail;
 use wasp_io::{MemSource, Source};

@@ -1,6 +1,7 @@
-use crate::{Given, MemSink, MemSource, Sink, Source, StdSink, StdSource, Taken};
+//! The ends of the program in memory, and those over a reader and a writer.
 use std::io::{self, Read, Write};
 use std::test::Fail;
+use wasp_io::{Given, MemSink, MemSource, Sink, Source, StdSink, StdSource, Taken};
 
 #[test]
 fn a_source_in_memory_gives_chunks_and_fails_at_its_numbers(rt: HostRuntime) -> Result<(), Fail> {
