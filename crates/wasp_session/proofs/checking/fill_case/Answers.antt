@@ -1,7 +1,7 @@
 use Rattle.std.proofs.Common.{ap, refl, length, arith}
 use Rattle.std.proofs.lemmas.Result.{on_ok_weaker}
 use Rattle.deck_lines.specs.Deck.{body_of}
-use Rattle.wasp_session.proofs.AskSteps.{fit_book}
+use Rattle.wasp_session.proofs.AskSteps.{fit_book, ids_within}
 use Rattle.wasp_session.proofs.CaseKeys.{case_asked, case_filled, case_simulates, pushed_and_sorted}
 use Rattle.wasp_session.proofs.FillKeys.{few_rows}
 use Rattle.wasp_session.proofs.GrowSteps.{grows_filled, grows_same}
@@ -11,6 +11,9 @@ use Rattle.wasp_session.proofs.checking.fill_case.Goals as goal
 
 pub push_years-requires : goal.push_years-requires
 push_years-requires g c = fit_book (body_of c.args.typed.now) c.args.book.now c.args.ids.now c.args.case c.args.lists.now c.requires.numbers c.requires.lists
+
+pub sort_by_neighbours-requires : goal.sort_by_neighbours-requires
+sort_by_neighbours-requires g c = record { within = ids_within (body_of c.args.typed.now) c.args.book.now c.args.ids.now c.requires.numbers }
 
 pub fill-requires-clause-demands : goal.fill-requires-clause-demands
 fill-requires-clause-demands g c κs outlives =

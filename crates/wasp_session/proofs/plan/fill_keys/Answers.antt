@@ -1,6 +1,7 @@
-use Rattle.std.proofs.Common.{◌∙◌, ap, refl, length, arith}
+use Rattle.std.proofs.Common.{ap, refl, length, arith}
 use Rattle.std.proofs.lemmas.Result.{on_ok_weaker}
 use Rattle.deck_lines.specs.Deck.{body_of}
+use Rattle.wasp_session.proofs.AskSteps.{ids_within}
 use Rattle.wasp_session.proofs.FillKeys.{are_asked, cases_filled, few_rows, fit_all, keys_filled, sorted_from}
 use Rattle.wasp_session.proofs.GrowSteps.{grows_filled, grows_same}
 use Rattle.wasp_session.proofs.PlanKeys.{on_either, on_ok5}
@@ -9,6 +10,9 @@ use Rattle.wasp_session.proofs.plan.fill_keys.Goals as goal
 
 pub all_demands-requires : goal.all_demands-requires
 all_demands-requires g c = fit_all (body_of c.args.typed.now) c.args.book.now c.args.ids.now c.args.cases.now c.requires.numbers c.requires.lists
+
+pub sort_by_neighbours-requires : goal.sort_by_neighbours-requires
+sort_by_neighbours-requires g c = record { within = ids_within (body_of c.args.typed.now) c.args.book.now c.args.ids.now c.requires.numbers }
 
 pub fill-requires-clause-demands : goal.fill-requires-clause-demands
 fill-requires-clause-demands g c κs outlives =

@@ -1,4 +1,4 @@
-use Rattle.std.proofs.Common.{◌≡◌, ◌≤◌, All, map, take}
+use Rattle.std.proofs.Common.{◌≡◌, All, map, take}
 use Rattle.cost_terms.specs.Cost.{nothing_built}
 use Rattle.cost_terms.specs.CostData.{Fits}
 use Rattle.checked_deck.specs.Economy.{costs}
