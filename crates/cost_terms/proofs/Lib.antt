@@ -1,5 +1,7 @@
+pub mod Additivity
 pub mod Amounts
 pub mod Columns
+pub mod Detours
 pub mod FactorBounds
 mod Rows
 pub mod Salvage
