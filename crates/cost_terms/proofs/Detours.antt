@@ -63,7 +63,7 @@ salvage_together h p m n =
 pub at_most_drop : (n : ℕ) (ms ns : List ℕ) → IsAtMost ms ns → IsAtMost (drop n ms) (drop n ns)
 at_most_drop n ms ns h = λ k b. rw (get_or-drop n ms k 0, get_or-drop n ns k 0) (h (n + k) (omega (arith, b, length-drop n ms)))
 
-sum_of : (f : Item → ℕ) (c : CostData) (before after : List ℕ) → sum_by f (items c before after) ≡ of_units f c.thermal before after + of_projects f c.groups (drop (length c.thermal) before) (drop (length c.thermal) after)
+pub sum_of : (f : Item → ℕ) (c : CostData) (before after : List ℕ) → sum_by f (items c before after) ≡ of_units f c.thermal before after + of_projects f c.groups (drop (length c.thermal) before) (drop (length c.thermal) after)
 sum_of f c before after =
     sum_by-append f (map (λ s. added_units s.0 (s.1.1 - s.1.0)) (thermal_steps c before after)) (flat_map (λ s. added_projects s.0 s.1.0 s.1.1) (group_steps c before after))
 
@@ -75,7 +75,7 @@ pub record AreGrowing (c : CostData) (os bs ns : List ℕ) : Type 0 where
   pub grows : IsAtMost os bs
   pub more : IsAtMost bs ns
 
-groups_sum : (f : Item → ℕ) (c : CostData) (os bs ns : List ℕ) → AreGrowing c os bs ns →
+pub groups_sum : (f : Item → ℕ) (c : CostData) (os bs ns : List ℕ) → AreGrowing c os bs ns →
     of_projects f c.groups (drop (length c.thermal) os) (drop (length c.thermal) bs) + of_projects f c.groups (drop (length c.thermal) bs) (drop (length c.thermal) ns) ≡ of_projects f c.groups (drop (length c.thermal) os) (drop (length c.thermal) ns)
 groups_sum f c os bs ns g =
     let t = length c.thermal in

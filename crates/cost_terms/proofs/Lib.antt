@@ -6,3 +6,4 @@ pub mod FactorBounds
 mod Rows
 pub mod Salvage
 pub mod Steps
+pub mod TableSteps
