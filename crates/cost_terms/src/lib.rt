@@ -8,7 +8,8 @@
 //! their sum.
 //!
 //! An `Economy` is seen as its `CostData`, a `Layer` as the list of its entries, a `CaseTable` as an economy
-//! with one list for each year. No call refuses or takes memory. A year costs at most 2 * 10^16 dollars, so
+//! with one list for each year. A `StepTable` holds what a year's steps need, so that a step is a few additions;
+//! making one is the only call that takes memory, and no call refuses. A year costs at most 2 * 10^16 dollars, so
 //! the cost of a plan of 30 years stays below 10^18. Straight-line salvage, the return of the fuel inventory
 //! at the horizon, escalation, the dearer shortages and all roundings are this program's own.
 #![tactic(auto)]

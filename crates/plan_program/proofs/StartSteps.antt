@@ -1,5 +1,5 @@
 -- The walk over starts in the order of their potentials.
-use Rattle.std.proofs.Common.{◌≡◌, ℕ, ◌+◌, ◌-◌, ◌*◌, ◌^◌, ◌<◌, ◌≤◌, List, [], ◌∷◌, ◌++◌, length, map, get_or, All, Contains, Option, Some, None, sym, ap, ◌∙◌, arith, subst, ⊎_elim}
+use Rattle.std.proofs.Common.{◌≡◌, ℕ, ◌+◌, ◌^◌, ◌<◌, ◌≤◌, List, [], ◌∷◌, ◌++◌, length, map, get_or, All, Option, Some, None, sym, ap, ◌∙◌, arith, subst, ⊎_elim}
 use Rattle.std.proofs.Math.ListN.{get_or-append, get_or-map}
 use Rattle.std.proofs.lemmas.Bool.{cases_eq, cases_lt}
 use Rattle.std.proofs.lemmas.List.{get_or_default, get_or_past, get_or_push, length-append, length-map}
@@ -7,13 +7,13 @@ use Rattle.std.proofs.lemmas.Option.{none-some}
 use Rattle.std.proofs.lemmas.List.Sorted.{All-permutation, Contains-permutation}
 use Rattle.std.specs.List.Sorted.{IsNonDecreasingBy, IsPermutation}
 use Rattle.plant_data.specs.Configs.{IsAtMost}
-use Rattle.cost_terms.specs.StepTable.{IsStanding, IsStepTable}
+use Rattle.cost_terms.specs.StepTable.{IsStanding}
 use Rattle.cost_terms.specs.declared.entries.Scored.{Scored}
 use Rattle.cost_terms.specs.declared.prices.CostData.{CostData}
 use Rattle.cost_terms.specs.declared.tables.Standing.{Standing}
 use Rattle.cost_terms.proofs.Detours.{detour}
 use Rattle.cost_terms.proofs.TableSteps.{growing}
-use Rattle.plan_program.specs.Starts.{AreListed, AreStarts, HasStart, IsFrom, IsSettled, IsStart, reached_of, start_at}
+use Rattle.plan_program.specs.Starts.{AreListed, AreStarts, IsFrom, IsSettled, IsStart, reached_of, start_at}
 use Rattle.plan_program.specs.Steps.{IsLeastFrom, IsRaised, built, reached_at}
 use Rattle.plan_program.specs.declared.come.Reached.{Reached}
 use Rattle.plan_program.specs.declared.come.Start.{Start}
@@ -68,19 +68,19 @@ least_same c year rs starts config None v h = λ i b g.
     h k s.among.1 (subst (λ (r : Reached). IsAtMost r.config config) (sym at) g)
 least_same c year rs starts config (Some cost) v h = (
   (let k = h.0.place in
-  let f = v.from k _ h.0.within in
-  let at : reached_at (map reached_of starts) k ≡ reached_at rs f.place = reached_start_at starts k ∙ f.same in
-  record {
-    place = f.place;
-    within = f.within;
-    grows = subst (λ (r : Reached). IsAtMost r.config config) at h.0.grows;
-    costs = subst (λ (r : Reached). r.cost + built c year r.config config ≡ cost) at h.0.costs;
-  }),
+      let f = v.from k _ h.0.within in
+      let at : reached_at (map reached_of starts) k ≡ reached_at rs f.place = reached_start_at starts k ∙ f.same in
+      record {
+        place = f.place;
+        within = f.within;
+        grows = subst (λ (r : Reached). IsAtMost r.config config) at h.0.grows;
+        costs = subst (λ (r : Reached). r.cost + built c year r.config config ≡ cost) at h.0.costs;
+      }),
   λ i b g.
-  let s = v.all i b in
-  let k = s.among.0 in
-  let at : reached_at (map reached_of starts) k ≡ reached_at rs i = reached_start_at starts k ∙ (ap reached_of (sym (start_is starts k s.start s.among.1) ∙ s.among.2) ∙ s.same) in
-  subst (λ (r : Reached). cost ≤ r.cost + built c year r.config config) at (h.1 k s.among.1 (subst (λ (r : Reached). IsAtMost r.config config) (sym at) g)),
+      let s = v.all i b in
+      let k = s.among.0 in
+      let at : reached_at (map reached_of starts) k ≡ reached_at rs i = reached_start_at starts k ∙ (ap reached_of (sym (start_is starts k s.start s.among.1) ∙ s.among.2) ∙ s.same) in
+      subst (λ (r : Reached). cost ≤ r.cost + built c year r.config config) at (h.1 k s.among.1 (subst (λ (r : Reached). IsAtMost r.config config) (sym at) g)),
 )
 
 pub raised_same : (c : CostData) (year : ℕ) (rs : List Reached) (starts : List Start) (e : Scored) (come : Option ℕ) → AreStarts c year rs starts → IsRaised c year (map reached_of starts) e come → IsRaised c year rs e come

@@ -8,7 +8,8 @@
 //! the first year that none reaches.
 //!
 //! The definitions speak of whole plans as lists. Costs are in dollars of present worth at the beginning of
-//! year 1, below 10^18. The time grows with the product of the numbers of entries of neighbouring years.
+//! year 1, below 10^18. For each entry the program walks over those of the year before in the order of their
+//! potentials, and stops where no later one can be cheaper.
 #![tactic(auto)]
 
 mod come;

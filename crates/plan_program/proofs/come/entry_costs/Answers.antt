@@ -1,4 +1,4 @@
-use Rattle.std.proofs.Common.{◌≡◌, ◌∙◌, ◌+◌, ◌*◌, ◌^◌, ℕ, ◌∷◌, ◌++◌, [], List, Option, None, Some, ap, arith, length, map, subst, sym}
+use Rattle.std.proofs.Common.{◌≡◌, ◌∙◌, ◌*◌, ◌^◌, ℕ, ◌∷◌, [], Option, None, arith, map, subst}
 use Rattle.std.proofs.lemmas.List.{get_or_default, length-append}
 use Rattle.cost_terms.specs.declared.entries.Scored.{Scored}
 use Rattle.plan_program.specs.Plans.{entry_at, no_entry}

@@ -1,4 +1,4 @@
-use Rattle.std.proofs.Common.{◌≡◌, ◌∙◌, ◌+◌, ℕ, ◌∷◌, ◌++◌, [], List, ap, arith, length, subst, sym}
+use Rattle.std.proofs.Common.{◌≡◌, ◌∙◌, ◌∷◌, [], arith}
 use Rattle.std.proofs.lemmas.List.{get_or_default, length-append}
 use Rattle.plan_program.specs.Starts.{IsStart, reached_of}
 use Rattle.plan_program.specs.Steps.{reached_at}

@@ -1,4 +1,4 @@
-use Rattle.std.proofs.Common.{◌≡◌, ◌<◌, ℕ, List, None, get_or, length, map, subst}
+use Rattle.std.proofs.Common.{List, None, get_or, map, subst}
 use Rattle.plan_program.specs.Plans.{entry_at}
 use Rattle.plan_program.specs.Starts.{reached_of}
 use Rattle.plan_program.specs.Steps.{IsRaised}
