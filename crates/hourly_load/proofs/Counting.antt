@@ -1,7 +1,6 @@
 -- Counts of loads by megawatt.
-use Rattle.std.proofs.Common.{◌≡◌, ℕ, zero, suc, ◌+◌, ◌-◌, ◌<◌, ◌≤◌, List, [], ◌∷◌, length, drop, slice_index, get_or, set, sum, All, Bool, true, false, cond, eqb, ltb, refl, sym, ap, ◌∙◌, arith, inl, inr}
-use Rattle.std.specs.List.{count_by, range_with_len}
-use Rattle.std.proofs.lemmas.Bool.{cases_lt, eq-eqb, le-ltb, lt-ltb}
+use Rattle.std.proofs.Common.{◌≡◌, ℕ, zero, suc, ◌+◌, ◌-◌, ◌<◌, ◌≤◌, List, [], ◌∷◌, length, drop, slice_index, get_or, set, sum, All, false, cond, eqb, ltb, refl, sym, ◌∙◌, arith, inl, inr}
+use Rattle.std.proofs.lemmas.Bool.{cases_lt, le-ltb, lt-ltb}
 use Rattle.std.proofs.lemmas.Bool.Decides.{nat_tests}
 use Rattle.std.proofs.lemmas.List.{drop_all, get_or-set_other, get_or-set_same}
 use Rattle.std.proofs.lemmas.List.Elements.{All-head, All-tail}

@@ -1,16 +1,16 @@
 -- The points of hourly loads have the form of a shape.
-use Rattle.std.proofs.Common.{◌≡◌, ℕ, zero, suc, ◌+◌, ◌-◌, ◌*◌, ◌/◌, ◌<◌, ◌≤◌, List, length, map, All, get_or, slice_index, nat_lt, inl, inr, refl, sym, ap, ◌∙◌, arith}
-use Rattle.std.specs.List.{range_with_len}
+use Rattle.std.proofs.Common.{◌≡◌, ℕ, ◌+◌, ◌-◌, ◌*◌, ◌/◌, ◌<◌, ◌≤◌, List, length, subst, All, get_or, slice_index, nat_lt, inl, inr, sym, ap, ◌∙◌, arith}
 use Rattle.std.proofs.Math.Nat.{mul-le-mul_left, mul-le-mul_right, div-mul-le_self, div-le_of_le-mul}
 use Rattle.std.proofs.lemmas.List.Elements.{All-from_get_or, All-get_or}
 use Rattle.std.proofs.lemmas.List.FromFn.{get_or-map-range_with_len, length-map-range_with_len}
 use Rattle.std.proofs.lemmas.List.Sums.{count_by-le-length}
 use Rattle.std.proofs.lemmas.Bool.{cases_lt}
 use Rattle.std.proofs.lemmas.Nat.{le-div}
+use Rattle.wasp_fixed.specs.Curves.{area}
 use Rattle.wasp_fixed.proofs.Floors.{div-le-div}
 use Rattle.plant_data.specs.declared.shape.Point.{Point}
 use Rattle.plant_data.specs.Shapes.{IsFaultless, IsInRange, load_at, no_point, share_at}
-use Rattle.hourly_load.specs.Hours.{above, IsGreatest, part, point, points_of}
+use Rattle.hourly_load.specs.Hours.{above, gap, HourliesAreOne, IsGreatest, part, point, points_of}
 use Rattle.hourly_load.proofs.Counting.{above-falls, above-past}
 
 -- ---- the loads of the points
@@ -86,8 +86,8 @@ points-in_range loads peak points least =
     let len = points-length loads peak points in
     All-from_get_or IsInRange (points_of loads peak points) no_point
     (λ i h.
-        let lt : i < points = omega (arith, len) in
-        (omega (arith, at_place loads peak points i lt, part-most points i least lt), omega (arith, share_in loads peak points i lt, share-most loads (part points i * peak / 10000))))
+    let lt : i < points = omega (arith, len) in
+    (omega (arith, at_place loads peak points i lt, part-most points i least lt), omega (arith, share_in loads peak points i lt, share-most loads (part points i * peak / 10000))))
 
 -- ---- the greatest load
 
@@ -118,3 +118,18 @@ greatest-same f g n m same is = record {
   within = is.within;
   met = sym (same is.place) ∙ is.met;
 }
+
+-- ---- all of it is one
+
+greatest-one : (f : ℕ → ℕ) (n a b : ℕ) → IsGreatest f n a → IsGreatest f n b → a ≡ b
+greatest-one f n a b one other = omega (arith, one.met, other.met, one.bounds other.place other.within, other.bounds one.place one.within)
+
+pub one_hourly : HourliesAreOne
+one_hourly loads points one other is has =
+    let peak : one.peak ≡ other.peak = greatest-one (slice_index loads) (length loads) one.peak other.peak is.peak has.peak in
+    let shape : one.points ≡ other.points = is.shape ∙ ap (λ (n : ℕ). points_of loads n points) peak ∙ sym has.shape in
+    let sum : one.sum ≡ other.sum = is.sum ∙ ap (area (above loads) 0) peak ∙ sym has.sum in
+    let met : IsGreatest (gap loads other.peak other.points) other.peak one.error =
+    subst (λ (n : ℕ). IsGreatest (gap loads n other.points) n one.error) peak (subst (λ (ps : List Point). IsGreatest (gap loads one.peak ps) one.peak one.error) shape is.error) in
+    let error : one.error ≡ other.error = greatest-one (gap loads other.peak other.points) other.peak one.error other.error met has.error in
+    λ i. record { peak = peak i; points = shape i; sum = sum i; error = error i }

@@ -5,7 +5,6 @@ use Rattle.std.specs.Prelude.{◌≡◌, ◌==◌, ℕ, ◌+◌, ◌-◌, ◌*�
 use Rattle.std.specs.List.{count_by, range_with_len}
 use Rattle.wasp_fixed.specs.Curves.{area}
 use Rattle.wasp_fixed.specs.declared.numbers.TheConstants.{ONE}
-use Rattle.plant_data.specs.Shapes.{IsFaultless}
 use Rattle.plant_data.specs.declared.shape.Point.{Point}
 use Rattle.load_curves.specs.LoadCurve.{load_curve}
 use Rattle.hourly_load.specs.declared.shape.Hourly.{Hourly}
@@ -50,3 +49,7 @@ pub record IsHourly (loads : List ℕ) (points : ℕ) (h : Hourly) : Type 0 wher
   pub shape : h.points ≡ points_of loads h.peak points
   pub sum : h.sum ≡ area (above loads) 0 h.peak
   pub error : IsGreatest (gap loads h.peak h.points) h.peak h.error
+
+-- the loads and the number of points settle all of it
+abbrev pub HourliesAreOne : Type 0
+HourliesAreOne = (loads : List ℕ) (points : ℕ) (one other : Hourly) → IsHourly loads points one → IsHourly loads points other → one ≡ other

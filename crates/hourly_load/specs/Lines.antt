@@ -1,6 +1,6 @@
 -- The lines of hourly loads: blank, one load in MW, or END; and the first fault of a line that is none.
 -- The words, numbers and faults are those of the lines of decks. This program's own.
-use Rattle.std.specs.Prelude.{◌==◌, ◌+◌, ◌<◌, ◌≤◌, ℕ, List, [], ◌∷◌, length, Option, Some, None, Result, Ok, Err, nat_lt, codes, slice_index, if◌then◌else◌}
+use Rattle.std.specs.Prelude.{◌==◌, ◌≤◌, ℕ, List, [], ◌∷◌, length, Option, Some, None, Result, Ok, Err, nat_lt, codes, slice_index, if◌then◌else◌}
 use Rattle.std.specs.Str.{bytes_eq}
 use Rattle.deck_lines.specs.declared.fault.LineFault.{LineFault}
 use Rattle.deck_lines.specs.declared.fault.LineKind.TheVariants as faults

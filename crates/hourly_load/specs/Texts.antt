@@ -1,5 +1,5 @@
 -- What is printed of hourly loads. This program's own; the SHAPE line is a statement of a deck.
-use Rattle.std.specs.Prelude.{ℕ, List, [], ◌∷◌, ◌++◌, codes, decimal}
+use Rattle.std.specs.Prelude.{ℕ, List, ◌++◌, codes, decimal}
 use Rattle.std.specs.List.{flat_map}
 use Rattle.plant_data.specs.declared.shape.Point.{Point}
 use Rattle.hourly_load.specs.declared.shape.Hourly.{Hourly}

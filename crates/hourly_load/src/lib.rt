@@ -11,12 +11,14 @@
 //! year, of at most 65,535 MW, and 2 to 64 points.
 #![tactic(auto)]
 
+mod laws;
 mod line;
 mod scan;
 mod shape;
 mod tally;
 mod text;
 
+pub use laws::hourlies_are_one;
 pub use line::{LoadLine, read_load};
 pub use shape::{Hourly, MAX_LOADS, shape_of};
 pub use text::write_hourly;

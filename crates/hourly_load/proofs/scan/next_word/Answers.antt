@@ -1,4 +1,4 @@
-use Rattle.std.proofs.Common.{◌∙◌, sym, arith}
+use Rattle.std.proofs.Common.{◌∙◌, sym}
 use Rattle.deck_lines.proofs.Bytewise.{word_step}
 use Rattle.hourly_load.proofs.scan.next_word.Goals as goal
 

@@ -1,9 +1,7 @@
-use Rattle.std.proofs.Common.{◌≡◌, ◌∙◌, ℕ, ◌*◌, ◌/◌, ◌≤◌, List, length, slice_index, ap, sym, arith}
+use Rattle.std.proofs.Common.{◌≡◌, ◌∙◌, ℕ, ◌*◌, ◌/◌, length, slice_index, ap, sym, arith}
 use Rattle.wasp_fixed.specs.Curves.{cell}
-use Rattle.plant_data.specs.declared.shape.Point.{Point}
-use Rattle.plant_data.specs.Shapes.{IsFaultless}
 use Rattle.load_curves.specs.LoadCurve.{load_curve}
-use Rattle.hourly_load.specs.Hours.{above, distance, gap, IsGreatest, points_of}
+use Rattle.hourly_load.specs.Hours.{above, distance, gap, IsGreatest}
 use Rattle.hourly_load.proofs.Counting.{area-above}
 use Rattle.hourly_load.proofs.Points.{greatest-same, loads-some, loads-within, peak-some, points-faultless}
 use Rattle.hourly_load.proofs.shape.shape_of.Goals as goal
@@ -28,8 +26,8 @@ returns-clause-value c =
     let above_is : (x : ℕ) → slice_index c.deref-2.result.now x ≡ above loads x = rw c.deref-2.ensures.value c.in_ok-above.ensures.value in
     let greatest : IsGreatest (λ x. distance (cell c.fill_curve.new.curve.cells x * length loads) (1000000000 * slice_index c.deref-2.result.now x) / length loads) peak c.greatest_gap.result = rw len_2 at c.greatest_gap.ensures in
     let same = λ (x : ℕ).
-        ap (λ (n : ℕ). distance (n * length loads) (1000000000 * slice_index c.deref-2.result.now x) / length loads) (c.fill_curve.ensures.value x)
-        ∙ ap (λ (n : ℕ). distance (load_curve peak 1 c.in_ok-shape.shape x * length loads) (1000000000 * n) / length loads) (above_is x) in
+    ap (λ (n : ℕ). distance (n * length loads) (1000000000 * slice_index c.deref-2.result.now x) / length loads) (c.fill_curve.ensures.value x)
+    ∙ ap (λ (n : ℕ). distance (load_curve peak 1 c.in_ok-shape.shape x * length loads) (1000000000 * n) / length loads) (above_is x) in
     record {
       peak = c.greatest-peak.ensures;
       shape = rw len at c.in_ok-shape.ensures;

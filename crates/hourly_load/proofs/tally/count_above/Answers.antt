@@ -1,4 +1,4 @@
-use Rattle.std.proofs.Common.{◌≡◌, ◌∙◌, ℕ, length, All, ◌≤◌}
+use Rattle.std.proofs.Common.{◌∙◌, length, All, ◌≤◌}
 use Rattle.hourly_load.proofs.Counting.{sum-above}
 use Rattle.hourly_load.proofs.tally.count_above.Goals as goal
 
