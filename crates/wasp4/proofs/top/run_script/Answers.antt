@@ -3,7 +3,7 @@ use Rattle.std.specs.Prelude.{◌==◌}
 use Rattle.wasp4.specs.declared.status.Status.{Status}
 use Rattle.wasp4.proofs.Faults.{never_short, same_command}
 use Rattle.wasp4.proofs.Running.{length_alone, others_stay}
-use Rattle.wasp4.proofs.top.run.Goals as goal
+use Rattle.wasp4.proofs.top.run_script.Goals as goal
 
 some_of : (n : ℕ) → n == 0 ≡ false → 1 ≤ n
 some_of zero e = absurd (true≢false e)
