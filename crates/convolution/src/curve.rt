@@ -90,6 +90,14 @@ impl Curve {
         }
     }
 
+    /// The cells, each in parts of `ONE`.
+    pub fn as_slice(&self) -> &[u32]
+        ensures value { result.now ≡ self.now.cells }
+        ensures small { IsAtMostOne (cell self.now.cells) }
+    {
+        &self.held[..self.used]
+    }
+
     /// Takes away all cells. The room stays.
     pub fn clear(&mut self)
         ensures { self.new ≡ record self.old { cells = [] } }

@@ -1,6 +1,9 @@
+pub mod Additivity
 pub mod Amounts
 pub mod Columns
+pub mod Detours
 pub mod FactorBounds
 mod Rows
 pub mod Salvage
 pub mod Steps
+pub mod TableSteps

@@ -16,7 +16,7 @@ no_life worth rest divisor none =
     let m : worth * rest ≤ worth * 0 = mul-le-mul_left worth (omega (arith, none)) in
     omega (arith, m, div-le_self (worth * rest) divisor)
 
-item_le : (h : Horizon) (i : Item) → item_salvage h i * ONE ≤ domestic i * h.domestic + foreign i * h.foreign
+pub item_le : (h : Horizon) (i : Item) → item_salvage h i * ONE ≤ domestic i * h.domestic + foreign i * h.foreign
 item_le h i =
     let worth : ℕ = domestic i * h.domestic + foreign i * h.foreign in
     ⊎_elim (λ none. no_life worth (i.life - h.ahead) (i.life * ONE) (omega (arith, none)))

@@ -13,6 +13,13 @@ pub record Adds (h : Horizon) (old : Totals) (items : List Item) (new : Totals) 
   pub inventory : new.inventory ≡ old.inventory + sum_by inventory items
   pub salvage : new.salvage ≡ old.salvage + sum_by (item_salvage h) items
 
+-- `new` has the sums of both
+pub record IsSum (one other new : Totals) : Type 0 where
+  pub domestic : new.domestic ≡ one.domestic + other.domestic
+  pub foreign : new.foreign ≡ one.foreign + other.foreign
+  pub inventory : new.inventory ≡ one.inventory + other.inventory
+  pub salvage : new.salvage ≡ one.salvage + other.salvage
+
 -- the sums are no greater than their MW allow, and salvage is no more than the investment's worth at the horizon
 pub record IsWithin (h : Horizon) (t : Totals) : Type 0 where
   pub domestic : t.domestic ≤ 50000000 * t.mw

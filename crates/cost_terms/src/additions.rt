@@ -5,7 +5,7 @@ ghost use Rattle.plant_data.specs.Configs.{IsAtMost};
 ghost use Rattle.wasp_fixed.specs.declared.numbers.TheConstants.{ONE};
 ghost use Rattle.cost_terms.specs.Cost.{added_projects, added_units, domestic, foreign, group_steps, item_salvage, items, thermal_steps};
 ghost use Rattle.cost_terms.specs.CostData.{Fits, IsEconomy, IsGroupCost, IsThermalCost};
-ghost use Rattle.cost_terms.specs.Totals.{Adds, IsHorizon, IsItem, IsWithin, nothing};
+ghost use Rattle.cost_terms.specs.Totals.{Adds, IsHorizon, IsItem, IsSum, IsWithin, nothing};
 
 use crate::prices::{CostData, GroupCost, ThermalCost};
 use plant_data::Config;
@@ -69,12 +69,53 @@ fn salvage_of(item: &Item, horizon: &Horizon) -> u64
     (worth * u128::from(item.life - horizon.ahead) / u128::from(item.life * ONE)) as u64
 }
 
+/// The salvage of so many units of a thermal candidate.
+pub fn units_salvage(plant: &ThermalCost, count: u64, horizon: &Horizon) -> u64
+    requires plant { IsThermalCost plant.now }
+    requires count { count ≤ 128 }
+    requires horizon { IsHorizon horizon.now }
+    ensures { result ≡ item_salvage horizon.now (added_units plant.now count) }
+{
+    let item = Item {
+        mw: count * plant.full,
+        capdom: plant.capdom,
+        capfor: plant.capfor,
+        stock: plant.stock,
+        life: plant.life,
+    };
+    salvage_of(&item, horizon)
+}
+
+/// Nothing is added.
+pub const NOTHING: Totals = Totals {
+    mw: 0,
+    domestic: 0,
+    foreign: 0,
+    inventory: 0,
+    salvage: 0,
+};
+
 impl Totals {
     /// The sums with one more item.
-    #[tactic(auto, using(crate::proofs::Amounts::per_mw))]
     fn add(&self, item: &Item, horizon: &Horizon) -> Totals
         requires item { IsItem item.now }
         requires horizon { IsHorizon horizon.now }
+        requires within { IsWithin horizon.now self.now }
+        requires few { self.now.mw ≤ 40000000 }
+        ensures adds { Adds horizon.now self.now (item.now ∷ []) result }
+        ensures within { IsWithin horizon.now result }
+        ensures mw { result.mw ≡ self.now.mw + item.now.mw }
+    {
+        self.add_item(item, salvage_of(item, horizon), horizon)
+    }
+
+    /// The sums with one more item, whose salvage is known.
+    #[tactic(auto, using(crate::proofs::Amounts::per_mw, crate::proofs::Amounts::worth_most))]
+    fn add_item(&self, item: &Item, salvage: u64, horizon: &Horizon) -> Totals
+        requires item { IsItem item.now }
+        requires horizon { IsHorizon horizon.now }
+        requires salvage { salvage ≡ item_salvage horizon.now item.now }
+        requires regained { salvage * ONE ≤ domestic item.now * horizon.now.domestic + foreign item.now * horizon.now.foreign }
         requires within { IsWithin horizon.now self.now }
         requires few { self.now.mw ≤ 40000000 }
         ensures adds { Adds horizon.now self.now (item.now ∷ []) result }
@@ -87,7 +128,49 @@ impl Totals {
             domestic: self.domestic + kw * item.capdom,
             foreign: self.foreign + kw * item.capfor,
             inventory: self.inventory + kw * item.stock,
-            salvage: self.salvage + salvage_of(item, horizon),
+            salvage: self.salvage + salvage,
+        }
+    }
+
+    /// The sums with so many units of a thermal candidate, whose salvage is known.
+    pub fn add_salvaged(&self, plant: &ThermalCost, count: u64, salvage: u64, horizon: &Horizon) -> Totals
+        requires plant { IsThermalCost plant.now }
+        requires count { count ≤ 128 }
+        requires horizon { IsHorizon horizon.now }
+        requires salvage { salvage ≡ item_salvage horizon.now (added_units plant.now count) }
+        requires within { IsWithin horizon.now self.now }
+        requires few { self.now.mw ≤ 40000000 }
+        ensures adds { Adds horizon.now self.now (added_units plant.now count ∷ []) result }
+        ensures within { IsWithin horizon.now result }
+        ensures mw { result.mw ≡ self.now.mw + count * plant.now.full }
+    {
+        let item = Item {
+            mw: count * plant.full,
+            capdom: plant.capdom,
+            capfor: plant.capfor,
+            stock: plant.stock,
+            life: plant.life,
+        };
+        self.add_item(&item, salvage, horizon)
+    }
+
+    /// The sums of both.
+    pub fn plus(&self, other: &Totals, horizon: &Horizon) -> Totals
+        requires horizon { IsHorizon horizon.now }
+        requires within { IsWithin horizon.now self.now }
+        requires others { IsWithin horizon.now other.now }
+        requires few { self.now.mw ≤ 40000000 }
+        requires fewer { other.now.mw ≤ 300000 }
+        ensures sums { IsSum self.now other.now result }
+        ensures within { IsWithin horizon.now result }
+        ensures mw { result.mw ≡ self.now.mw + other.now.mw }
+    {
+        Totals {
+            mw: self.mw + other.mw,
+            domestic: self.domestic + other.domestic,
+            foreign: self.foreign + other.foreign,
+            inventory: self.inventory + other.inventory,
+            salvage: self.salvage + other.salvage,
         }
     }
 
@@ -116,7 +199,7 @@ impl Totals {
     }
 
     /// The sums with the projects of a group that a count from one to another adds.
-    fn add_projects(&self, group: &GroupCost, from: u64, to: u64, horizon: &Horizon) -> Totals
+    pub fn add_projects(&self, group: &GroupCost, from: u64, to: u64, horizon: &Horizon) -> Totals
         requires group { IsGroupCost group.now }
         requires rises { from ≤ to }
         requires most { to ≤ group.now.greatest }

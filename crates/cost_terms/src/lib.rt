@@ -19,9 +19,11 @@ mod entries;
 mod factors;
 mod prices;
 mod running;
+mod tables;
 mod terms;
 
 pub use economy::Economy;
 pub use entries::{CaseTable, Layer, Scored};
 pub use prices::{CostData, GroupCost, PlantCost, ProjectCost, Rates, ShortagePrice, ThermalCost};
+pub use tables::{Standing, StepTable};
 pub use terms::{Built, Ran, build_cost, run_cost, salvage_is_within_build, step_cost};

@@ -10,6 +10,3 @@ mod lines;
 
 pub use bytes::{ByteReader, Next};
 pub use lines::{Found, LONGEST_LINE, next_line};
-
-#[cfg(test)]
-mod tests;

@@ -3,4 +3,5 @@ pub mod Forward
 mod Least
 pub mod OneSolution
 pub mod Orders
+pub mod StartSteps
 pub mod Ways

@@ -1,13 +1,16 @@
 //! The costs-to-come, year by year.
-ghost use Rattle.std.specs.Prelude.{◌≡◌, ℕ, ◌+◌, ◌-◌, ◌*◌, ◌^◌, ◌<◌, ◌≤◌, ◌++◌, [], ◌∷◌, IfOk, OnOk, IfSome, All, Option, length, slice_index_or, Some, None};
+ghost use Rattle.std.specs.Prelude.{◌≡◌, ℕ, ◌+◌, ◌-◌, ◌*◌, ◌^◌, ◌<◌, ◌≤◌, ◌++◌, [], ◌∷◌, IfOk, IsTrue, OnOk, IfSome, All, IsPermutation, Option, length, map, slice_index_or, Some, None};
+ghost use Rattle.std.specs.List.Sorted.{IsNonDecreasingBy};
 ghost use Rattle.cost_terms.specs.CostData.{Fits};
+ghost use Rattle.cost_terms.specs.StepTable.{IsStanding, IsStepTable};
 ghost use Rattle.cost_terms.specs.Table.{IsEntry, IsTable};
 ghost use Rattle.plan_program.specs.CostToCome.{come_at};
 ghost use Rattle.plan_program.specs.Plans.{entry_at};
+ghost use Rattle.plan_program.specs.Starts.{AreListed, AreStarts, IsSettled, IsStart, reached_of};
 ghost use Rattle.plan_program.specs.Steps.{AreNumbered, AreWayCosts, IsLeastFrom, IsRaised, IsWithWay, reached_at};
 
 use crate::solved::CostToCome;
-use cost_terms::{CaseTable, Economy, Scored, build_cost, run_cost};
+use cost_terms::{CaseTable, Economy, Scored, Standing, StepTable, run_cost};
 use plant_data::{Config, Listed};
 use std::alloc::{AllocError, Global};
 
@@ -19,67 +22,193 @@ pub struct Reached {
     pub cost: u64,
 }
 
+/// What is added to a potential, so that none is below 0: no step's additions cost more.
+const LIFT: u64 = 10_000_000_000_000_000;
+
+/// A configuration that is reached, as a year sees it.
+#[derive(Clone, Copy)]
+pub struct Start {
+    /// The configuration with its sums.
+    pub standing: Standing,
+    /// The least cost of coming to it.
+    pub cost: u64,
+    /// That cost less what the configuration would cost if all of it were built in the year, and `LIFT`: the
+    /// lower, the cheaper are the ways on.
+    pub potential: u64,
+}
+
+/// A configuration that is reached, as the year of the tables sees it.
+fn start_of(economy: &Economy, steps: &StepTable, reached: &Reached) -> Start
+    requires table { IsStepTable economy.now steps.now }
+    requires limit { steps.now.year ≤ 30 }
+    requires fits { Fits economy.now reached.now.config }
+    requires small { reached.now.cost ≤ (steps.now.year - 1) * (2 * 10 ^ 16) }
+    ensures start { IsStart economy.now steps.now.year result }
+    ensures same { reached_of result ≡ reached.now }
+{
+    let standing = steps.standing(economy, &reached.config);
+    Start {
+        standing,
+        cost: reached.cost,
+        potential: reached.cost + LIFT - standing.net,
+    }
+}
+
+/// Puts starts in the order of their potentials.
+fn sort_starts(starts: &mut Vec<Start>)
+    ensures permutation { IsPermutation starts.old.items starts.new.items }
+    ensures sorted { IsNonDecreasingBy (λ s. s.potential) starts.new.items }
+{
+    starts.sort_unstable_by_key(
+        |start: &Start| -> u64
+            ensures { result ≡ start.now.potential }
+        { start.potential },
+    );
+}
+
+/// All that is reached, as the year of the tables sees it, in the same order.
+fn list_starts(
+    alloc: Global,
+    economy: &Economy,
+    steps: &StepTable,
+    reached: &[Reached],
+) -> Result<Vec<Start>, AllocError>
+    requires table { IsStepTable economy.now steps.now }
+    requires limit { steps.now.year ≤ 30 }
+    requires fits { (i : ℕ) → i < length reached.now → Fits economy.now (reached_at reached.now i).config }
+    requires small { (i : ℕ) → i < length reached.now → (reached_at reached.now i).cost ≤ (steps.now.year - 1) * (2 * 10 ^ 16) }
+    ensures { IfOk result (λ starts. AreListed economy.now steps.now.year reached.now (length reached.now) starts.items) }
+{
+    let mut starts = Vec::with_capacity(alloc, reached.len())?;
+    for from in reached {
+        starts.push(start_of(economy, steps, from))?;
+    }
+    Ok(starts)
+}
+
+/// All that is reached, as the year of the tables sees it, in the order of potentials.
+fn starts_of(
+    alloc: Global,
+    economy: &Economy,
+    steps: &StepTable,
+    reached: &[Reached],
+) -> Result<Vec<Start>, AllocError>
+    requires table { IsStepTable economy.now steps.now }
+    requires limit { steps.now.year ≤ 30 }
+    requires fits { (i : ℕ) → i < length reached.now → Fits economy.now (reached_at reached.now i).config }
+    requires small { (i : ℕ) → i < length reached.now → (reached_at reached.now i).cost ≤ (steps.now.year - 1) * (2 * 10 ^ 16) }
+    ensures starts { IfOk result (λ starts. AreStarts economy.now steps.now.year reached.now starts.items) }
+    ensures sorted { IfOk result (λ starts. IsNonDecreasingBy (λ s. s.potential) starts.items) }
+{
+    let mut starts = list_starts(alloc, economy, steps, reached)?;
+    sort_starts(&mut starts);
+    Ok(starts)
+}
+
 /// The least cost so far of coming to a configuration, with the way from one more that is reached.
 fn with_way(
     economy: &Economy,
-    year: u64,
-    from: &Reached,
-    config: &Config,
+    steps: &StepTable,
+    from: &Start,
+    to: &Standing,
     least: Option<u64>,
 ) -> Option<u64>
-    requires first { 1 ≤ year }
-    requires last { year ≤ economy.now.years }
-    requires limit { year ≤ 30 }
-    requires fits { Fits economy.now config.now }
-    requires from { Fits economy.now from.now.config }
-    requires cost { from.now.cost ≤ (year - 1) * (2 * 10 ^ 16) }
-    requires least { IfSome least (λ cost. cost ≤ (year - 1) * (2 * 10 ^ 16) + 10 ^ 16) }
-    ensures value { IsWithWay economy.now year from.now config.now least result }
-    ensures small { IfSome result (λ cost. cost ≤ (year - 1) * (2 * 10 ^ 16) + 10 ^ 16) }
+    requires table { IsStepTable economy.now steps.now }
+    requires limit { steps.now.year ≤ 30 }
+    requires from { IsStart economy.now steps.now.year from.now }
+    requires to { IsStanding economy.now steps.now.year to.now }
+    requires least { IfSome least (λ cost. cost ≤ (steps.now.year - 1) * (2 * 10 ^ 16) + 10 ^ 16) }
+    ensures value { IsWithWay economy.now steps.now.year (reached_of from.now) to.now.config least result }
+    ensures small { IfSome result (λ cost. cost ≤ (steps.now.year - 1) * (2 * 10 ^ 16) + 10 ^ 16) }
 {
-    if !from.config.at_most(config) {
+    if !from.standing.config.at_most(&to.config) {
         return least;
     }
-    let cost = from.cost + build_cost(economy, year, &from.config, config).net();
+    let cost = from.cost + steps.net_build(economy, &from.standing, to);
     match least {
         Some(other) => Some(other.min(cost)),
         None => Some(cost),
     }
 }
 
+/// Whether no way from a potential on can be cheaper than the least so far, whatever the floors do: they take
+/// less than two dollars from a way in two steps.
+fn is_settled(least: Option<u64>, from: &Start, to: &Standing) -> bool
+    requires least { IfSome least (λ cost. cost ≤ 30 * (2 * 10 ^ 16)) }
+    requires from { from.now.potential ≤ 30 * (2 * 10 ^ 16) }
+    requires to { to.now.net ≤ 10 ^ 16 }
+    ensures { IsTrue result → IsSettled least from.now.potential to.now.net }
+{
+    let Some(cost) = least else {
+        return false;
+    };
+    cost + LIFT + 2 <= from.potential + to.net
+}
+
 /// The least cost of coming to a configuration from those reached in the year before, without what it costs
 /// to run it.
-fn least_from(economy: &Economy, year: u64, reached: &[Reached], config: &Config) -> Option<u64>
-    requires first { 1 ≤ year }
-    requires last { year ≤ economy.now.years }
-    requires limit { year ≤ 30 }
-    requires fits { Fits economy.now config.now }
-    requires reached { (i : ℕ) → i < length reached.now → Fits economy.now (reached_at reached.now i).config }
-    requires small { (i : ℕ) → i < length reached.now → (reached_at reached.now i).cost ≤ (year - 1) * (2 * 10 ^ 16) }
-    ensures least { IsLeastFrom economy.now year reached.now (length reached.now) config.now result }
-    ensures small { IfSome result (λ cost. cost ≤ (year - 1) * (2 * 10 ^ 16) + 10 ^ 16) }
+fn least_from(economy: &Economy, steps: &StepTable, starts: &[Start], to: &Standing) -> Option<u64>
+    requires table { IsStepTable economy.now steps.now }
+    requires limit { steps.now.year ≤ 30 }
+    requires starts { All (IsStart economy.now steps.now.year) starts.now }
+    requires sorted { IsNonDecreasingBy (λ s. s.potential) starts.now }
+    requires to { IsStanding economy.now steps.now.year to.now }
+    ensures least { IsLeastFrom economy.now steps.now.year (map reached_of starts.now) (length starts.now) to.now.config result }
+    ensures small { IfSome result (λ cost. cost ≤ (steps.now.year - 1) * (2 * 10 ^ 16) + 10 ^ 16) }
 {
     let mut least = None;
-    for from in reached {
-        least = with_way(economy, year, from, config, least);
+    for from in starts {
+        if is_settled(least, from, to) {
+            return least;
+        }
+        least = with_way(economy, steps, from, to, least);
     }
     least
 }
 
 /// The cost-to-come of an entry, from what is reached before its year.
-fn cost_to_come(economy: &Economy, year: u64, reached: &[Reached], entry: &Scored) -> Option<u64>
-    requires first { 1 ≤ year }
-    requires last { year ≤ economy.now.years }
-    requires limit { year ≤ 30 }
+fn cost_to_come(
+    economy: &Economy,
+    steps: &StepTable,
+    starts: &[Start],
+    entry: &Scored,
+) -> Option<u64>
+    requires table { IsStepTable economy.now steps.now }
+    requires limit { steps.now.year ≤ 30 }
     requires entry { IsEntry economy.now entry.now }
-    requires fits { (i : ℕ) → i < length reached.now → Fits economy.now (reached_at reached.now i).config }
-    requires small { (i : ℕ) → i < length reached.now → (reached_at reached.now i).cost ≤ (year - 1) * (2 * 10 ^ 16) }
-    ensures value { IsRaised economy.now year reached.now entry.now result }
-    ensures small { IfSome result (λ cost. cost ≤ year * (2 * 10 ^ 16)) }
+    requires starts { All (IsStart economy.now steps.now.year) starts.now }
+    requires sorted { IsNonDecreasingBy (λ s. s.potential) starts.now }
+    ensures value { IsRaised economy.now steps.now.year (map reached_of starts.now) entry.now result }
+    ensures small { IfSome result (λ cost. cost ≤ steps.now.year * (2 * 10 ^ 16)) }
 {
-    let least = least_from(economy, year, reached, &entry.config)?;
-    let ran = run_cost(economy, year, &entry.config, &entry.row);
+    let to = steps.standing(economy, &entry.config);
+    let least = least_from(economy, steps, starts, &to)?;
+    let ran = run_cost(economy, steps.year, &entry.config, &entry.row);
     Some(least + ran.total())
+}
+
+/// The costs-to-come of a year's entries, from what is reached before it.
+fn entry_costs(
+    alloc: Global,
+    economy: &Economy,
+    steps: &StepTable,
+    starts: &[Start],
+    layer: &[Scored],
+) -> Result<Vec<Option<u64>>, AllocError>
+    requires table { IsStepTable economy.now steps.now }
+    requires limit { steps.now.year ≤ 30 }
+    requires entries { All (IsEntry economy.now) layer.now }
+    requires starts { All (IsStart economy.now steps.now.year) starts.now }
+    requires sorted { IsNonDecreasingBy (λ s. s.potential) starts.now }
+    ensures entries { IfOk result (λ come. length come.items ≡ length layer.now) }
+    ensures each { IfOk result (λ come. (i : ℕ) → i < length layer.now → IsRaised economy.now steps.now.year (map reached_of starts.now) (entry_at layer.now i) (slice_index_or come.items i None)) }
+    ensures small { IfOk result (λ come. (i cost : ℕ) → slice_index_or come.items i None ≡ Some cost → cost ≤ steps.now.year * (2 * 10 ^ 16)) }
+{
+    let mut come = Vec::with_capacity(alloc, layer.len())?;
+    for entry in layer {
+        come.push(cost_to_come(economy, steps, starts, entry))?;
+    }
+    Ok(come)
 }
 
 /// The costs-to-come of a year's entries, from what is reached before it.
@@ -100,10 +229,9 @@ fn year_costs(
     ensures each { IfOk result (λ come. (i : ℕ) → i < length layer.now → IsRaised economy.now year reached.now (entry_at layer.now i) (slice_index_or come.items i None)) }
     ensures small { IfOk result (λ come. (i cost : ℕ) → slice_index_or come.items i None ≡ Some cost → cost ≤ year * (2 * 10 ^ 16)) }
 {
-    let mut come = Vec::with_capacity(alloc, layer.len())?;
-    for entry in layer {
-        come.push(cost_to_come(economy, year, reached, entry))?;
-    }
+    let steps = StepTable::new(alloc, economy, year)?;
+    let starts = starts_of(alloc, economy, &steps, reached)?;
+    let come = entry_costs(alloc, economy, &steps, &starts, layer)?;
     Ok(come)
 }
 

@@ -10,4 +10,6 @@ pub mod GenerationSteps
 pub mod TapeSteps
 pub mod CountSteps
 pub mod Rooms
+pub mod Layings
+pub mod TurnEnergies
 mod WorkedRows

@@ -2,6 +2,7 @@ pub mod Curves
 pub mod Dispatch
 pub mod Engine
 pub mod Generation
+pub mod Laid
 pub mod Loading
 pub mod Prepared
 pub mod Row

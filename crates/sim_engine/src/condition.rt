@@ -7,8 +7,10 @@ ghost use Rattle.sim_engine.specs.Prepared.{AreSmall, HasRoom, IsPrepared, Keeps
 ghost use Rattle.sim_engine.specs.Row.{domestic_price, foreign_price, over_periods, period_priced, variable_price, year_unserved};
 
 use crate::costs::{Costs, price_blocks};
+use crate::either::run_either;
 use crate::fleet::Fleet;
-use crate::period::{Bench, Missing, run_period};
+use crate::period::{Bench, Missing};
+use crate::shelves::place_of;
 use crate::water::fill_thermal_load;
 use plant_data::Config;
 use wasp_fixed::ONE;
@@ -41,8 +43,9 @@ pub fn simulate_period(
     let top = loads[period].peak.div_ceil(step);
     fill_thermal_load(system, config, period, condition, &mut bench.spare);
     fleet.write_available(loads.len(), period, bench.available.as_mut_slice());
-    run_period(
+    run_either(
         bench,
+        place_of(period, condition),
         fleet.blocks(),
         fleet.units().len(),
         top,

@@ -4,6 +4,7 @@ ghost use Rattle.sim_engine.specs.Loading.{cells_in, energies, lolp, unserved};
 ghost use Rattle.sim_engine.specs.Prepared.{KeepsRoom, period_of};
 ghost use Rattle.sim_engine.specs.Stack.{cells_of, parts_of};
 
+use crate::shelves::Shelves;
 use crate::stack::{Loaded, Stack};
 use convolution::Curve;
 use loading_order::Block;
@@ -75,6 +76,8 @@ pub struct Bench {
     pub available: Vec<u64>,
     /// The energy of each block, in MWh.
     pub energies: Vec<u64>,
+    /// What is kept from one run to the next; no shelf where nothing is.
+    pub kept: Shelves,
 }
 
 /// What is not served behind all blocks.

@@ -7,6 +7,7 @@ use crate::fleet::Fleet;
 use crate::generation::run_generations;
 use crate::period::Bench;
 use crate::rows::run_row;
+use crate::shelves::Shelves;
 use crate::stack::Stack;
 use convolution::Curve;
 use plant_data::{Config, Row};
@@ -16,10 +17,10 @@ use wasp_fixed::OutOfMemory;
 use year_system::YearSystem;
 
 /// The greatest number of blocks, two of each thermal unit.
-const MAX_BLOCKS: usize = 256;
+pub const MAX_BLOCKS: usize = 256;
 
-/// A bench for so many cells and units.
-fn make_bench(alloc: Global, cells: usize, units: usize) -> Result<Bench, OutOfMemory>
+/// A bench for so many cells and units, with shelves where anything is to be kept.
+fn make_bench(alloc: Global, cells: usize, units: usize, keeps: bool) -> Result<Bench, OutOfMemory>
     requires cells { cells ≤ 65536 }
     requires units { units ≤ 128 }
     ensures stack { IfOk result (λ b. b.stack ≡ record { load = []; parts = []; room = cells; curves = units + 1 }) }
@@ -32,6 +33,7 @@ fn make_bench(alloc: Global, cells: usize, units: usize) -> Result<Bench, OutOfM
         spare: Curve::with_room(alloc, cells)?,
         available: vec![in alloc; 0u64; units]?,
         energies: vec![in alloc; 0u64; MAX_BLOCKS]?,
+        kept: Shelves::where_kept(alloc, keeps, cells, units)?,
     })
 }
 
@@ -71,14 +73,21 @@ impl PlainEngine {
                 spare: Curve::new(alloc),
                 available: Vec::new(alloc),
                 energies: Vec::new(alloc),
+                kept: Shelves::new(alloc),
             },
             simulated: 0,
             detailed: 0,
         }
     }
 
-    /// Makes a greater room where one is wanted, and the least that holds both the old one and what is asked for.
-    fn grow(&mut self, cells: usize, units: usize) -> Result<(), OutOfMemory>
+    /// Makes a greater room where one is wanted, and the least that holds both the old one and what is asked for;
+    /// with shelves where anything is to be kept.
+    pub(crate) fn grow(
+        &mut self,
+        cells: usize,
+        units: usize,
+        keeps: bool,
+    ) -> Result<(), OutOfMemory>
         requires cells { cells ≤ 65536 }
         requires units { units ≤ 128 }
         ensures cells { OnOk result (cells ≤ self.new.room.cells) }
@@ -97,7 +106,7 @@ impl PlainEngine {
             let cells = cells.max(cells_now);
             let units = units.max(units_now);
             let fleet = Fleet::with_room(self.alloc, units)?;
-            let bench = make_bench(self.alloc, cells, units)?;
+            let bench = make_bench(self.alloc, cells, units, keeps)?;
             self.fleet = fleet;
             self.bench = bench;
         }
@@ -113,7 +122,7 @@ impl SimEngine for PlainEngine {
     ghost work = { λ e. record { simulated = e.simulated; detailed = e.detailed; tape = None; runs = None } };
 
     fn ready(&mut self, cells: usize, units: usize) -> Result<(), OutOfMemory> {
-        self.grow(cells, units)
+        self.grow(cells, units, false)
     }
 
     fn simulate(&mut self, system: &YearSystem, config: &Config) -> Row {

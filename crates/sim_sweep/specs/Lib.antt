@@ -1,7 +1,11 @@
 pub mod Cases
 pub mod Demands
+pub mod Due
 pub mod Filling
+pub mod Keeping
 pub mod Kept
 pub mod Places
+pub mod Settles
 pub mod Told
+pub mod Workers
 pub mod Works

@@ -14,16 +14,26 @@
 
 mod case;
 mod demand;
+mod due;
 mod filling;
+mod jobs;
+mod keeping;
 mod kept;
 mod laws;
+mod parallel;
 mod settling;
-#[cfg(test)]
-mod tests;
+mod sweeping;
+mod tally;
+mod worker;
 
 pub use case::{CaseDone, CaseJob};
 pub use demand::Demand;
+pub use due::DueRows;
 pub use filling::fill;
+pub use jobs::settle;
+pub use keeping::keep_rows;
 pub use kept::Kept;
-pub use laws::{due_rows_stand, new_codes_come_once, new_runs_come_once};
+pub use laws::{counts_rise_together, due_rows_stand, new_codes_come_once, new_runs_come_once};
 pub use settling::{case_table, solve_table};
+pub use sweeping::{split_for, sweep};
+pub use tally::Tally;

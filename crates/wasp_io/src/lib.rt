@@ -19,6 +19,3 @@ pub use memory::{MemSink, MemSource};
 pub use sink::{Given, Sink};
 pub use source::{Source, Taken};
 pub use standard::{StdSink, StdSource};
-
-#[cfg(test)]
-mod tests;

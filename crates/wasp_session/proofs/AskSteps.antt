@@ -16,7 +16,7 @@ use Rattle.wasp_fixed.proofs.Lists.{all_flat, all_split, contains_tail, first_or
 use Rattle.wasp_session.proofs.EachSteps.{at_place, in_place}
 use Rattle.wasp_session.proofs.KeySteps.{in_none}
 use Rattle.wasp_session.specs.Keys.{IsKeyOf}
-use Rattle.wasp_session.specs.Steps.{AreCaseLists, AreYearLists, FitBook, HasYearRoom, HasYears, IsYearList, all_demands, case_demands, demands_of, year_demands}
+use Rattle.wasp_session.specs.Steps.{AreCaseLists, AreYearLists, EachAt, FitBook, HasYearRoom, HasYears, IsYearList, all_demands, case_demands, demands_of, year_demands}
 use Rattle.year_system.specs.Code.{code_of}
 use Rattle.year_system.specs.System.{Fits, System}
 
@@ -183,10 +183,14 @@ pub few_new : (rows : List KeptRow) (ds : List Demand) → length (new_demands r
 few_new rows ds = omega (arith, short_filter (λ (d : Demand). is_none (words_in rows d.code)) (first_demands ds), length_first ds)
 
 -- the configurations fit the book's systems
+-- the numbers of the years' systems are the book's
+pub ids_within : (d : Says) (book : List System) (ids : List ℕ) → HasYears d book ids → EachAt (λ k id. id < length book) ids
+ids_within d book ids numbers = λ k id at. slice_get_within book id (system d (k + 1)) (numbers.each k id at)
+
 pub fit_book : (d : Says) (book : List System) (ids : List ℕ) (c : ℕ) (ys : List (List (List ℕ))) → HasYears d book ids → AreYearLists d c ys → FitBook book ids ys
 fit_book d book ids c ys numbers are = record {
   many = are.many ∙ sym numbers.many;
-  within = λ k id at. slice_get_within book id (system d (k + 1)) (numbers.each k id at);
+  within = ids_within d book ids numbers;
   each = λ k configs at s its.
       let w = slice_get_within ys k configs at in
       let id_at = at_place ids k (omega (arith, w, are.many, numbers.many)) in

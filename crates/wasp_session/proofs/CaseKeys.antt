@@ -3,6 +3,8 @@ use Rattle.std.proofs.Common.{◌≡◌, ◌∙◌, ap, sym, refl, subst, ℕ, �
 use Rattle.std.specs.List.{flat_map, zip}
 use Rattle.std.proofs.lemmas.List.{length-map}
 use Rattle.std.proofs.lemmas.List.Elements.{All-contains, All-map}
+use Rattle.std.proofs.lemmas.List.Sorted.{All-permutation, Contains-permutation, IsPermutation-sym}
+use Rattle.std.specs.List.Sorted.{IsPermutation}
 use Rattle.std.proofs.lemmas.Option.{same_Some, slice_get_within}
 use Rattle.std.proofs.lemmas.Slice.Zip.{length-zip}
 use Rattle.board_core.specs.declared.row.KeptRow.{KeptRow}
@@ -14,7 +16,7 @@ use Rattle.sim_sweep.specs.declared.demand.Demand.{Demand}
 use Rattle.wasp_fixed.proofs.Lists.{all_flat}
 use Rattle.wasp_session.proofs.AskSteps.{all_zip, flat_all, in_flat, in_map, in_zip, length_flat, one_demand, year_all, year_is}
 use Rattle.wasp_session.proofs.EachSteps.{at_place}
-use Rattle.wasp_session.proofs.FillKeys.{AreAsked, HasFilled, asked_simulated}
+use Rattle.wasp_session.proofs.FillKeys.{AreAsked, HasFilled, asked_simulated, asked_sorted, sorted_from}
 use Rattle.wasp_session.specs.Keys.{IsCaseKeyOf}
 use Rattle.wasp_session.specs.State.{AreOnes}
 use Rattle.wasp_session.specs.Steps.{AreYearLists, HasYearRoom, HasYears, IsYearList, Simulates, case_demands, year_demands}
@@ -95,34 +97,38 @@ few_demands_in d book ids c ys numbers are few_years =
 
 -- ---- the calls that fill them
 
--- they are pushed onto no others
-pub pushed_on_none : (book : List System) (ids : List ℕ) (ys : List (List (List ℕ))) (ds pushed begun : List Demand) → ds ≡ pushed → pushed ≡ begun ++ demands_in book ids ys → begun ≡ [] → ds ≡ demands_in book ids ys
-pushed_on_none book ids ys ds pushed begun same is none = same ∙ is ∙ ap (λ (xs : List Demand). xs ++ demands_in book ids ys) none
+-- they are pushed onto no others, and then put in order
+pub pushed_and_sorted : (book : List System) (ids : List ℕ) (ys : List (List (List ℕ))) (ds pushed begun sorted : List Demand)
+    → pushed ≡ begun ++ demands_in book ids ys → begun ≡ [] → IsPermutation pushed sorted → ds ≡ sorted → IsPermutation (demands_in book ids ys) ds
+pushed_and_sorted book ids ys ds pushed begun sorted is none same value =
+    sorted_from (demands_in book ids ys) pushed sorted ds (is ∙ ap (λ (xs : List Demand). xs ++ demands_in book ids ys) none) same value
 
 -- what is true of the demands, as they were listed
 pub case_asked : (d : Says) (book : List System) (ids : List ℕ) (c : ℕ) (ys : List (List (List ℕ))) (room : Room) (ds : List Demand) (m : ℕ) → m ≡ years d → m ≤ 30
-    → HasYears d book ids → AreYearLists d c ys → HasYearRoom d room → ds ≡ demands_in book ids ys → AreAsked d book room ds
-case_asked d book ids c ys room ds m of_years few_years numbers are enough is =
-    subst (AreAsked d book room) (sym is) (record {
+    → HasYears d book ids → AreYearLists d c ys → HasYearRoom d room → IsPermutation (demands_in book ids ys) ds → AreAsked d book room ds
+case_asked d book ids c ys room ds m of_years few_years numbers are enough same =
+    asked_sorted d book room (demands_in book ids ys) ds same (record {
       demands = are_demands_in d book ids c ys numbers are;
       within = have_room_in d book ids c ys room numbers are enough;
       few = few_demands_in d book ids c ys numbers are (omega (arith, of_years, few_years));
     })
 
 -- what is true of all demands is so of each year's
-pub case_filled : (book : List System) (ids : List ℕ) (ys : List (List (List ℕ))) (ds : List Demand) (now : List KeptRow) → ds ≡ demands_in book ids ys
+pub case_filled : (book : List System) (ids : List ℕ) (ys : List (List (List ℕ))) (ds : List Demand) (now : List KeptRow) → IsPermutation (demands_in book ids ys) ds
     → All (IsFilled book now) ds → All (All (IsFilled book now)) (case_demands book ids ys)
-case_filled book ids ys ds now asked all =
+case_filled book ids ys ds now same all =
+    let asked = demands_in book ids ys in
     All-map (All (IsFilled book now)) (year_demands book) (zip ids ys)
-    (flat_all (IsFilled book now) (year_demands book) (zip ids ys) (subst (All (IsFilled book now)) asked all))
+    (flat_all (IsFilled book now) (year_demands book) (zip ids ys) (All-permutation (IsFilled book now) ds asked (IsPermutation-sym asked ds same) all))
 
 pub case_simulates : NewCodesComeOnce → (d : Says) (book : List System) (ids : List ℕ) (c : ℕ) (ys : List (List (List ℕ))) (ds : List Demand) (kept now : List KeptRow) (before after : Work)
-    → 1 ≤ c → c ≤ cases d → AreOnes book → All IsSystem book → HasYears d book ids → AreYearLists d c ys → ds ≡ demands_in book ids ys
+    → 1 ≤ c → c ≤ cases d → AreOnes book → All IsSystem book → HasYears d book ids → AreYearLists d c ys → IsPermutation (demands_in book ids ys) ds
     → HasFilled book kept now before after ds → Simulates (IsCaseKeyOf d c) book kept book now before after
-case_simulates come_once d book ids c ys ds kept now before after low high ones systems numbers are asked has =
+case_simulates come_once d book ids c ys ds kept now before after low high ones systems numbers are same has =
     let all = demands_in book ids ys in
     let keys = are_keys_in d book ids c ys low high numbers are in
-    asked_simulated come_once (IsCaseKeyOf d c) book kept now before after all ones systems (are_demands_in d book ids c ys numbers are)
-    (λ e key has is. All-contains (λ (z : Demand). (k : Run) → run_in book z ≡ Some k → IsCaseKeyOf d c k) all e keys has key is)
-    (λ key is. all_asked_in d book ids c ys key numbers are is)
-    (subst (HasFilled book kept now before after) asked has)
+    asked_simulated come_once (IsCaseKeyOf d c) book kept now before after ds ones systems
+    (All-permutation (IsDemand book) all ds same (are_demands_in d book ids c ys numbers are))
+    (λ e key has is. All-contains (λ (z : Demand). (k : Run) → run_in book z ≡ Some k → IsCaseKeyOf d c k) all e keys (Contains-permutation ds all e (IsPermutation-sym all ds same) has) key is)
+    (λ key is. let asked = all_asked_in d book ids c ys key numbers are is in (asked.0, Contains-permutation all ds asked.0 same asked.1, asked.2))
+    has

@@ -1,6 +1,8 @@
 -- What filling the demands of a deck does to the keys that are kept.
 use Rattle.std.proofs.Common.{◌≡◌, sym, subst, ℕ, ◌+◌, ◌≤◌, ◌⊎◌, List, All, Contains, IsSome, IsTrue, Some, length, arith}
 use Rattle.std.proofs.lemmas.List.Elements.{All-contains}
+use Rattle.std.proofs.lemmas.List.Sorted.{All-permutation, Contains-permutation, IsPermutation-sym, length_permutation}
+use Rattle.std.specs.List.Sorted.{IsPermutation}
 use Rattle.board_core.specs.declared.row.KeptRow.{KeptRow}
 use Rattle.board_core.specs.declared.row.Words.{Words}
 use Rattle.deck_check.specs.Readings.{Says, cases, years}
@@ -28,10 +30,22 @@ pub record AreAsked (d : Says) (book : List System) (room : Room) (ds : List Dem
   pub within : All (HasRoomFor room book) ds
   pub few : length ds ≤ 120000
 
+-- so it is of the same demands in another order
+pub asked_sorted : (d : Says) (book : List System) (room : Room) (all ds : List Demand) → IsPermutation all ds → AreAsked d book room all → AreAsked d book room ds
+asked_sorted d book room all ds same a = record {
+  demands = All-permutation (IsDemand book) all ds same a.demands;
+  within = All-permutation (HasRoomFor room book) all ds same a.within;
+  few = let n = length_permutation all ds same in omega (arith, n, a.few);
+}
+
+-- demands that were listed, and then put in order
+pub sorted_from : (all listed sorted ds : List Demand) → listed ≡ all → IsPermutation listed sorted → ds ≡ sorted → IsPermutation all ds
+sorted_from all listed sorted ds is same value = subst (IsPermutation all) (sym value) (subst (λ xs. IsPermutation xs sorted) is same)
+
 pub are_asked : (d : Says) (book : List System) (ids : List ℕ) (lists : List (List (List (List ℕ)))) (room : Room) (ds : List Demand) (n m : ℕ) → n ≡ cases d → n ≤ 8 → m ≡ years d → m ≤ 30
-    → HasYears d book ids → AreCaseLists d lists → HasYearRoom d room → ds ≡ all_demands book ids lists → AreAsked d book room ds
-are_asked d book ids lists room ds n m of_cases few_cases of_years few_years numbers are enough is =
-    subst (AreAsked d book room) (sym is) (record { demands = are_demands d book ids lists numbers are; within = have_room d book ids lists room numbers are enough; few = few_demands d book ids lists numbers are (omega (arith, of_cases, few_cases)) (omega (arith, of_years, few_years)) })
+    → HasYears d book ids → AreCaseLists d lists → HasYearRoom d room → IsPermutation (all_demands book ids lists) ds → AreAsked d book room ds
+are_asked d book ids lists room ds n m of_cases few_cases of_years few_years numbers are enough same =
+    asked_sorted d book room (all_demands book ids lists) ds same (record { demands = are_demands d book ids lists numbers are; within = have_room d book ids lists room numbers are enough; few = few_demands d book ids lists numbers are (omega (arith, of_cases, few_cases)) (omega (arith, of_years, few_years)) })
 
 -- what filling says of some demands
 pub record HasFilled (book : List System) (kept now : List KeptRow) (before after : Work) (ds : List Demand) : Type 0 where
@@ -55,19 +69,22 @@ asked_simulated come_once demanded book kept now before after ds ones systems de
 }
 
 pub keys_filled : NewCodesComeOnce → (d : Says) (book : List System) (ids : List ℕ) (lists : List (List (List (List ℕ)))) (ds : List Demand) (kept now : List KeptRow) (before after : Work)
-    → AreOnes book → All IsSystem book → HasYears d book ids → AreCaseLists d lists → ds ≡ all_demands book ids lists
+    → AreOnes book → All IsSystem book → HasYears d book ids → AreCaseLists d lists → IsPermutation (all_demands book ids lists) ds
     → HasFilled book kept now before after ds → Simulates (IsKeyOf d) book kept book now before after
-keys_filled come_once d book ids lists ds kept now before after ones systems numbers are asked has =
+keys_filled come_once d book ids lists ds kept now before after ones systems numbers are same has =
     let all = all_demands book ids lists in
     let keys = are_keys d book ids lists numbers are in
-    asked_simulated come_once (IsKeyOf d) book kept now before after all ones systems (are_demands d book ids lists numbers are)
-    (λ e key has is. All-contains (λ (z : Demand). (k : Run) → run_in book z ≡ Some k → IsKeyOf d k) all e keys has key is)
-    (λ key is. all_asked d book ids lists key numbers are is)
-    (subst (HasFilled book kept now before after) asked has)
+    asked_simulated come_once (IsKeyOf d) book kept now before after ds ones systems
+    (All-permutation (IsDemand book) all ds same (are_demands d book ids lists numbers are))
+    (λ e key has is. All-contains (λ (z : Demand). (k : Run) → run_in book z ≡ Some k → IsKeyOf d k) all e keys (Contains-permutation ds all e (IsPermutation-sym all ds same) has) key is)
+    (λ key is. let asked = all_asked d book ids lists key numbers are is in (asked.0, Contains-permutation all ds asked.0 same asked.1, asked.2))
+    has
 
-pub cases_filled : (book : List System) (ids : List ℕ) (lists : List (List (List (List ℕ)))) (ds : List Demand) (now : List KeptRow) → ds ≡ all_demands book ids lists
+pub cases_filled : (book : List System) (ids : List ℕ) (lists : List (List (List (List ℕ)))) (ds : List Demand) (now : List KeptRow) → IsPermutation (all_demands book ids lists) ds
     → All (IsFilled book now) ds → All (λ ys. All (All (IsFilled book now)) (case_demands book ids ys)) lists
-cases_filled book ids lists ds now asked all = case_all (IsFilled book now) book ids lists (subst (All (IsFilled book now)) asked all)
+cases_filled book ids lists ds now same all =
+    let asked = all_demands book ids lists in
+    case_all (IsFilled book now) book ids lists (All-permutation (IsFilled book now) ds asked (IsPermutation-sym asked ds same) all)
 
 pub few_rows : (kept : List KeptRow) (ds : List Demand) (many : ℕ) → length ds ≤ 120000 → many ≡ length kept + length (new_demands kept ds) → many ≤ length kept + 120000
 few_rows kept ds many few is = omega (arith, few, is, few_new kept ds)

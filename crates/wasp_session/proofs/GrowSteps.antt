@@ -1,13 +1,12 @@
 -- How the book and the kept rows grow.
-use Rattle.std.proofs.Common.{◌≡◌, ◌∙◌, ap, refl, sym, subst, ℕ, ◌+◌, ◌<◌, ◌≤◌, inl, inr, ⊎_elim, List, [], ◌∷◌, ◌++◌, All, Contains, Some, length, map, max, take, get_or, slice_get, arith}
+use Rattle.std.proofs.Common.{◌≡◌, ◌∙◌, ap, sym, subst, ℕ, ◌+◌, ◌<◌, inl, inr, ⊎_elim, List, [], ◌∷◌, ◌++◌, All, Contains, Some, length, map, max, take, get_or, slice_get, arith}
 use Rattle.std.specs.List.{fold}
 use Rattle.std.proofs.lemmas.List.{append-nil, map-append, take_all, take_more}
 use Rattle.std.proofs.lemmas.List.Elements.{All-nil, All-weaker}
 use Rattle.std.proofs.lemmas.List.Sums.{fold-append}
 use Rattle.std.proofs.lemmas.Option.{slice_get-get_or}
 use Rattle.board_core.specs.declared.row.KeptRow.{KeptRow}
-use Rattle.checked_deck.specs.Systems.{system}
-use Rattle.deck_check.specs.Readings.{Says, years}
+use Rattle.deck_check.specs.Readings.{Says}
 use Rattle.sim_engine.specs.Engine.{Run}
 use Rattle.sim_sweep.specs.Kept.{AreDue}
 use Rattle.wasp_session.proofs.KeySteps.{to_new, to_old}

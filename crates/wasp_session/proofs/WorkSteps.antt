@@ -1,5 +1,5 @@
 -- What an engine did over several calls.
-use Rattle.std.proofs.Common.{◌≡◌, ◌∙◌, ap, refl, sym, ℕ, ◌+◌, List, [], add-one}
+use Rattle.std.proofs.Common.{◌≡◌, ◌∙◌, ap, refl, sym, ℕ, ◌+◌, List, add-one}
 use Rattle.board_core.specs.declared.row.KeptRow.{KeptRow}
 use Rattle.sim_engine.specs.Engine.{Run, Work, counted, raised}
 use Rattle.sim_sweep.specs.Works.{HasWorked}

@@ -26,12 +26,10 @@ year_system_is d book ids k s has within at =
     let same : s ≡ system d (k + 1) = same_Some s (system d (k + 1)) (sym at ∙ there) in
     record { is = same; width = subst (λ (z : System). greatest z ≡ says.greatest d) (sym same) (has.width k within) }
 
--- room for the years is room for one of them
-pub year_room_is : (d : Says) (k cells_room units_room : ℕ) (room : Room) (s : System) → HasYearRoom d room → k < years d → IsYearSystem d (k + 1) s
-    → room.cells ≤ cells_room → room.units ≤ units_room → HasRoom cells_room units_room s
-year_room_is d k cells_room units_room room s has within year cells_stay units_stay =
-    let one : HasRoom room.cells room.units s = subst (HasRoom room.cells room.units) (sym year.is) (has k within) in
-    record { cells = omega (arith, one.cells, cells_stay); units = omega (arith, one.units, units_stay) }
+-- room for the years is room for one of them, as long as it stays
+pub year_room_is : (d : Says) (k : ℕ) (now room : Room) (s : System) → HasYearRoom d room → k < years d → IsYearSystem d (k + 1) s → now ≡ room → HasRoom now.cells now.units s
+year_room_is d k now room s has within year same =
+    subst (λ (r : Room). HasRoom r.cells r.units s) (sym same) (subst (HasRoom room.cells room.units) (sym year.is) (has k within))
 
 -- the configurations of the years, and one more
 pub configs_more : (ys : List PlanYear) (y : PlanYear) (xs : List (List ℕ)) (k : ℕ) → k < length xs → map (λ (z : PlanYear). z.config) ys ≡ take k xs → y.config ≡ get_or xs k []

@@ -17,6 +17,7 @@ ghost use Rattle.wasp_session.specs.Steps.{AreSystems, AreYearLists, GrowsBy, Ha
 use crate::demands::push_years;
 use crate::interning::{intern_all, room_for};
 use crate::listing::{ListError, list_case, systems_of};
+use crate::neighbours::sort_by_neighbours;
 use crate::opened::OpenCheck;
 use crate::settling::tabulate_case;
 use checked_deck::{CheckError, TypedDeck, check};
@@ -84,8 +85,7 @@ fn fill_case<E: SimEngine>(
     ensures few { length kept.new ≤ length kept.old + 120000 }
     ensures detailed { (E.work engine.new).detailed ≡ (E.work engine.old).detailed }
     ensures tape { (E.work engine.new).tape ≡ (E.work engine.old).tape }
-    ensures cells_stay { (E.room engine.old).cells ≤ (E.room engine.new).cells }
-    ensures units_stay { (E.room engine.old).units ≤ (E.room engine.new).units }
+    ensures room { E.room engine.new ≡ E.room engine.old }
 {
     // Their readings tell the proof that there are at most 30 years, and that each system is one.
     let _years = typed.years();
@@ -93,6 +93,7 @@ fn fill_case<E: SimEngine>(
     new_codes_come_once();
     let mut demands = Vec::new(alloc);
     push_years(book, ids, lists, &mut demands)?;
+    sort_by_neighbours(alloc, book, ids, &mut demands)?;
     fill(kept, engine, book, &demands)
 }
 

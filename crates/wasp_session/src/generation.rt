@@ -107,8 +107,7 @@ pub(crate) fn year_generations<E: SimEngine>(
     ensures value { IfOk result (λ gs. gs ≡ generations_of (body_of typed.now) year config.now) }
     ensures printable { IfOk result (λ gs. All IsPrintableGeneration gs) }
     ensures detailed { OnOk result ((E.work engine.new).detailed ≡ counted (E.work engine.old).detailed) }
-    ensures cells_stay { (E.room engine.old).cells ≤ (E.room engine.new).cells }
-    ensures units_stay { (E.room engine.old).units ≤ (E.room engine.new).units }
+    ensures room { E.room engine.new ≡ E.room engine.old }
     ensures work { OnlyDetails (E.work engine.old) (E.work engine.new) }
 {
     let count = system.existing().len() + system.thermal().len() + system.groups().len();

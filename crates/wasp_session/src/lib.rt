@@ -18,6 +18,7 @@ mod generation;
 mod interning;
 mod laws;
 mod listing;
+mod neighbours;
 mod opened;
 mod plan;
 mod planned;

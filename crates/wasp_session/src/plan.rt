@@ -14,6 +14,7 @@ ghost use Rattle.wasp_session.specs.Steps.{AreCaseLists, AreSystems, AreYearList
 use crate::demands::all_demands;
 use crate::interning::{intern_all, room_for};
 use crate::listing::{ListError, YearLists, list_cases, systems_of};
+use crate::neighbours::sort_by_neighbours;
 use crate::report::report_case;
 use crate::settling::settle_case;
 use checked_deck::{CheckError, TypedDeck, check};
@@ -49,8 +50,7 @@ fn tell_case<E: SimEngine>(
     requires filled { All (All (IsFilled book.now kept.now)) (spec.case_demands book.now ids.now lists.now) }
     requires room { HasYearRoom (body_of typed.now) (E.room engine.old) }
     ensures told { OnOk result (Tells (IsCaseTold (body_of typed.now) case) text.old.items text.new.items (E.work engine.old).detailed (E.work engine.new).detailed) }
-    ensures cells_stay { (E.room engine.old).cells ≤ (E.room engine.new).cells }
-    ensures units_stay { (E.room engine.old).units ≤ (E.room engine.new).units }
+    ensures room { E.room engine.new ≡ E.room engine.old }
     ensures work { OnlyDetails (E.work engine.old) (E.work engine.new) }
 {
     // Its reading tells the proof that the deck has no fault. By the laws the report is accepted as a certificate.
@@ -122,15 +122,15 @@ fn fill_keys<E: SimEngine>(
     ensures few { length kept.new ≤ length kept.old + 120000 }
     ensures detailed { (E.work engine.new).detailed ≡ (E.work engine.old).detailed }
     ensures tape { (E.work engine.new).tape ≡ (E.work engine.old).tape }
-    ensures cells_stay { (E.room engine.old).cells ≤ (E.room engine.new).cells }
-    ensures units_stay { (E.room engine.old).units ≤ (E.room engine.new).units }
+    ensures room { E.room engine.new ≡ E.room engine.old }
 {
     // Their readings tell the proof that there are at most 8 cases and 30 years, and that each system is one.
     let _cases = typed.cases();
     let _years = typed.years();
     let _systems = book.len();
     new_codes_come_once();
-    let demands = all_demands(alloc, book, ids, cases)?;
+    let mut demands = all_demands(alloc, book, ids, cases)?;
+    sort_by_neighbours(alloc, book, ids, &mut demands)?;
     fill(kept, engine, book, &demands)
 }
 

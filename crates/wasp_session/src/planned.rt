@@ -66,8 +66,7 @@ fn plan_year<E: SimEngine>(
     ensures widths { IfOk result (λ y. HasWidths (says.greatest (body_of typed.now)) y) }
     ensures printable { IfOk result (λ y. IsPrintableYear y) }
     ensures detailed { OnOk result ((E.work engine.new).detailed ≡ counted (E.work engine.old).detailed) }
-    ensures cells_stay { (E.room engine.old).cells ≤ (E.room engine.new).cells }
-    ensures units_stay { (E.room engine.old).units ≤ (E.room engine.new).units }
+    ensures room { E.room engine.new ≡ E.room engine.old }
     ensures work { OnlyDetails (E.work engine.old) (E.work engine.new) }
 {
     Ok(PlanYear {
@@ -103,8 +102,7 @@ pub(crate) fn plan_years<E: SimEngine>(
     ensures widths { IfOk result (λ ys. All (HasWidths (says.greatest (body_of typed.now))) ys) }
     ensures printable { IfOk result (λ ys. All IsPrintableYear ys) }
     ensures detailed { OnOk result ((E.work engine.new).detailed ≡ raised (length configs.now) (E.work engine.old).detailed) }
-    ensures cells_stay { (E.room engine.old).cells ≤ (E.room engine.new).cells }
-    ensures units_stay { (E.room engine.old).units ≤ (E.room engine.new).units }
+    ensures room { E.room engine.new ≡ E.room engine.old }
     ensures work { OnlyDetails (E.work engine.old) (E.work engine.new) }
 {
     let economy = table.economy();

@@ -73,8 +73,7 @@ fn years_of<E: SimEngine>(
     ensures widths { IfOk result (λ ys. All (HasWidths (says.greatest (body_of typed.now))) ys) }
     ensures printable { IfOk result (λ ys. All IsPrintableYear ys) }
     ensures detailed { IfOk result (λ ys. (E.work engine.new).detailed ≡ raised (length ys) (E.work engine.old).detailed) }
-    ensures cells_stay { (E.room engine.old).cells ≤ (E.room engine.new).cells }
-    ensures units_stay { (E.room engine.old).units ≤ (E.room engine.new).units }
+    ensures room { E.room engine.new ≡ E.room engine.old }
     ensures work { OnlyDetails (E.work engine.old) (E.work engine.new) }
 {
     match outcome {
@@ -116,8 +115,7 @@ pub(crate) fn report_case<E: SimEngine>(
     ensures table { IfOk result (λ report. IsTable report.table) }
     ensures printable { IfOk result (λ report. IsPrintable case report) }
     ensures detailed { IfOk result (λ report. (E.work engine.new).detailed ≡ raised (length report.years) (E.work engine.old).detailed) }
-    ensures cells_stay { (E.room engine.old).cells ≤ (E.room engine.new).cells }
-    ensures units_stay { (E.room engine.old).units ≤ (E.room engine.new).units }
+    ensures room { E.room engine.new ≡ E.room engine.old }
     ensures work { OnlyDetails (E.work engine.old) (E.work engine.new) }
 {
     // Its reading tells the proof that there is a year.

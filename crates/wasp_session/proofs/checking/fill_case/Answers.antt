@@ -1,8 +1,8 @@
 use Rattle.std.proofs.Common.{ap, refl, length, arith}
 use Rattle.std.proofs.lemmas.Result.{on_ok_weaker}
 use Rattle.deck_lines.specs.Deck.{body_of}
-use Rattle.wasp_session.proofs.AskSteps.{fit_book}
-use Rattle.wasp_session.proofs.CaseKeys.{case_asked, case_filled, case_simulates, pushed_on_none}
+use Rattle.wasp_session.proofs.AskSteps.{fit_book, ids_within}
+use Rattle.wasp_session.proofs.CaseKeys.{case_asked, case_filled, case_simulates, pushed_and_sorted}
 use Rattle.wasp_session.proofs.FillKeys.{few_rows}
 use Rattle.wasp_session.proofs.GrowSteps.{grows_filled, grows_same}
 use Rattle.wasp_session.proofs.PlanKeys.{on_either, on_ok5}
@@ -12,21 +12,24 @@ use Rattle.wasp_session.proofs.checking.fill_case.Goals as goal
 pub push_years-requires : goal.push_years-requires
 push_years-requires g c = fit_book (body_of c.args.typed.now) c.args.book.now c.args.ids.now c.args.case c.args.lists.now c.requires.numbers c.requires.lists
 
+pub sort_by_neighbours-requires : goal.sort_by_neighbours-requires
+sort_by_neighbours-requires g c = record { within = ids_within (body_of c.args.typed.now) c.args.book.now c.args.ids.now c.requires.numbers }
+
 pub fill-requires-clause-demands : goal.fill-requires-clause-demands
 fill-requires-clause-demands g c κs outlives =
-    let asked = pushed_on_none c.args.book.now c.args.ids.now c.args.lists.now _ _ _ c.deref.ensures.value c.in_ok-push_years.ensures c.new-demands.ensures.items in
+    let asked = pushed_and_sorted c.args.book.now c.args.ids.now c.args.lists.now _ _ _ _ c.in_ok-push_years.ensures c.new-demands.ensures.items c.sort_by_neighbours.ensures.same c.deref.ensures.value in
     (case_asked (body_of c.args.typed.now) c.args.book.now c.args.ids.now c.args.case c.args.lists.now (g.E.SimEngine.room c.args.engine.now) c.deref.result.now c.years-years.result
     c.years-years.ensures.value c.years-years.ensures.high c.requires.numbers c.requires.lists c.requires.room asked).demands
 
 pub fill-requires-clause-room : goal.fill-requires-clause-room
 fill-requires-clause-room g c κs outlives =
-    let asked = pushed_on_none c.args.book.now c.args.ids.now c.args.lists.now _ _ _ c.deref.ensures.value c.in_ok-push_years.ensures c.new-demands.ensures.items in
+    let asked = pushed_and_sorted c.args.book.now c.args.ids.now c.args.lists.now _ _ _ _ c.in_ok-push_years.ensures c.new-demands.ensures.items c.sort_by_neighbours.ensures.same c.deref.ensures.value in
     (case_asked (body_of c.args.typed.now) c.args.book.now c.args.ids.now c.args.case c.args.lists.now (g.E.SimEngine.room c.args.engine.now) c.deref.result.now c.years-years.result
     c.years-years.ensures.value c.years-years.ensures.high c.requires.numbers c.requires.lists c.requires.room asked).within
 
 pub returns-clause-filled : goal.returns-clause-filled
 returns-clause-filled g c =
-    let asked = pushed_on_none c.args.book.now c.args.ids.now c.args.lists.now _ _ _ c.deref.ensures.value c.in_ok-push_years.ensures c.new-demands.ensures.items in
+    let asked = pushed_and_sorted c.args.book.now c.args.ids.now c.args.lists.now _ _ _ _ c.in_ok-push_years.ensures c.new-demands.ensures.items c.sort_by_neighbours.ensures.same c.deref.ensures.value in
     on_ok_weaker c.fill.result
     (λ filled. case_filled c.args.book.now c.args.ids.now c.args.lists.now c.deref.result.now c.fill.new.kept asked filled)
     c.fill.ensures.filled
@@ -35,7 +38,7 @@ pub returns-clause-keys : goal.returns-clause-keys
 returns-clause-keys g c =
     let e = g.E.SimEngine in
     let f = c.fill.ensures in
-    let asked = pushed_on_none c.args.book.now c.args.ids.now c.args.lists.now _ _ _ c.deref.ensures.value c.in_ok-push_years.ensures c.new-demands.ensures.items in
+    let asked = pushed_and_sorted c.args.book.now c.args.ids.now c.args.lists.now _ _ _ _ c.in_ok-push_years.ensures c.new-demands.ensures.items c.sort_by_neighbours.ensures.same c.deref.ensures.value in
     on_ok5 c.fill.result _ _ _ _ _ _ f.filled f.stays f.only f.many f.worked
     (λ filled stays only many worked.
     case_simulates c.new_codes_come_once.ensures (body_of c.args.typed.now) c.args.book.now c.args.ids.now c.args.case c.args.lists.now c.deref.result.now c.args.kept.now c.fill.new.kept
@@ -50,6 +53,11 @@ returns-clause-grows g c =
     on_either c.fill.result _ _ _ (returns-clause-keys g c) c.fill.ensures.err_kept
     (λ keys. grows_filled d demanded c.args.book.now c.args.kept.now c.fill.new.kept keys.new keys.adds)
     (λ same. grows_same d demanded c.args.book.now c.args.book.now c.args.kept.now c.fill.new.kept refl same)
+
+pub returns-in_err-sort_by_neighbours-clause-grows : goal.returns-in_err-sort_by_neighbours-clause-grows
+returns-in_err-sort_by_neighbours-clause-grows g c =
+    let d = body_of c.args.typed.now in
+    grows_same d (IsCaseKeyOf d c.args.case) c.args.book.now c.args.book.now c.args.kept.now c.args.kept.now refl refl
 
 pub returns-in_err-push_years-clause-grows : goal.returns-in_err-push_years-clause-grows
 returns-in_err-push_years-clause-grows g c =
@@ -68,7 +76,7 @@ returns-clause-tape g c =
 
 pub returns-clause-few : goal.returns-clause-few
 returns-clause-few g c =
-    let asked = pushed_on_none c.args.book.now c.args.ids.now c.args.lists.now _ _ _ c.deref.ensures.value c.in_ok-push_years.ensures c.new-demands.ensures.items in
+    let asked = pushed_and_sorted c.args.book.now c.args.ids.now c.args.lists.now _ _ _ _ c.in_ok-push_years.ensures c.new-demands.ensures.items c.sort_by_neighbours.ensures.same c.deref.ensures.value in
     let are = case_asked (body_of c.args.typed.now) c.args.book.now c.args.ids.now c.args.case c.args.lists.now (g.E.SimEngine.room c.args.engine.now) c.deref.result.now c.years-years.result
     c.years-years.ensures.value c.years-years.ensures.high c.requires.numbers c.requires.lists c.requires.room asked in
     on_either c.fill.result _ _ _ c.fill.ensures.many c.fill.ensures.err_kept

@@ -1,4 +1,4 @@
-use Rattle.std.proofs.Common.{◌<◌, ◌+◌, [], ◌∷◌, length, length-append, arith}
+use Rattle.std.proofs.Common.{◌<◌, [], ◌∷◌, length, length-append, arith}
 use Rattle.std.proofs.lemmas.Bool.Decides.{nat_tests}
 use Rattle.std.proofs.lemmas.Grind.{common_steps}
 use Rattle.wasp_session.proofs.EachSteps.{in_place}

@@ -1,4 +1,4 @@
-use Rattle.std.proofs.Common.{◌≡◌, ◌∙◌, ◌≤◌, ap, max, arith}
+use Rattle.std.proofs.Common.{◌≡◌, ◌∙◌, ap, max, arith}
 use Rattle.wasp_session.proofs.GrowSteps.{greatest_all, greatest_more}
 use Rattle.wasp_session.proofs.ListSteps.{room_all, room_more}
 use Rattle.year_system.specs.System.{cells, unit_limit}

@@ -1,7 +1,8 @@
-use Rattle.std.proofs.Common.{◌∙◌, ap, refl, length, arith}
+use Rattle.std.proofs.Common.{ap, refl, length, arith}
 use Rattle.std.proofs.lemmas.Result.{on_ok_weaker}
 use Rattle.deck_lines.specs.Deck.{body_of}
-use Rattle.wasp_session.proofs.FillKeys.{are_asked, cases_filled, few_rows, fit_all, keys_filled}
+use Rattle.wasp_session.proofs.AskSteps.{ids_within}
+use Rattle.wasp_session.proofs.FillKeys.{are_asked, cases_filled, few_rows, fit_all, keys_filled, sorted_from}
 use Rattle.wasp_session.proofs.GrowSteps.{grows_filled, grows_same}
 use Rattle.wasp_session.proofs.PlanKeys.{on_either, on_ok5}
 use Rattle.wasp_session.specs.Keys.{IsKeyOf}
@@ -10,20 +11,23 @@ use Rattle.wasp_session.proofs.plan.fill_keys.Goals as goal
 pub all_demands-requires : goal.all_demands-requires
 all_demands-requires g c = fit_all (body_of c.args.typed.now) c.args.book.now c.args.ids.now c.args.cases.now c.requires.numbers c.requires.lists
 
+pub sort_by_neighbours-requires : goal.sort_by_neighbours-requires
+sort_by_neighbours-requires g c = record { within = ids_within (body_of c.args.typed.now) c.args.book.now c.args.ids.now c.requires.numbers }
+
 pub fill-requires-clause-demands : goal.fill-requires-clause-demands
 fill-requires-clause-demands g c κs outlives =
     (are_asked (body_of c.args.typed.now) c.args.book.now c.args.ids.now c.args.cases.now (g.E.SimEngine.room c.args.engine.now) c.deref.result.now c.cases-cases.result c.years-years.result
-    c.cases-cases.ensures.value c.cases-cases.ensures.high c.years-years.ensures.value c.years-years.ensures.high c.requires.numbers c.requires.lists c.requires.room (c.deref.ensures.value ∙ c.in_ok-demands.ensures)).demands
+    c.cases-cases.ensures.value c.cases-cases.ensures.high c.years-years.ensures.value c.years-years.ensures.high c.requires.numbers c.requires.lists c.requires.room (sorted_from _ _ _ _ c.in_ok-demands.ensures c.sort_by_neighbours.ensures.same c.deref.ensures.value)).demands
 
 pub fill-requires-clause-room : goal.fill-requires-clause-room
 fill-requires-clause-room g c κs outlives =
     (are_asked (body_of c.args.typed.now) c.args.book.now c.args.ids.now c.args.cases.now (g.E.SimEngine.room c.args.engine.now) c.deref.result.now c.cases-cases.result c.years-years.result
-    c.cases-cases.ensures.value c.cases-cases.ensures.high c.years-years.ensures.value c.years-years.ensures.high c.requires.numbers c.requires.lists c.requires.room (c.deref.ensures.value ∙ c.in_ok-demands.ensures)).within
+    c.cases-cases.ensures.value c.cases-cases.ensures.high c.years-years.ensures.value c.years-years.ensures.high c.requires.numbers c.requires.lists c.requires.room (sorted_from _ _ _ _ c.in_ok-demands.ensures c.sort_by_neighbours.ensures.same c.deref.ensures.value)).within
 
 pub returns-clause-filled : goal.returns-clause-filled
 returns-clause-filled g c =
     on_ok_weaker c.fill.result
-    (λ filled. cases_filled c.args.book.now c.args.ids.now c.args.cases.now c.deref.result.now c.fill.new.kept (c.deref.ensures.value ∙ c.in_ok-demands.ensures) filled)
+    (λ filled. cases_filled c.args.book.now c.args.ids.now c.args.cases.now c.deref.result.now c.fill.new.kept (sorted_from _ _ _ _ c.in_ok-demands.ensures c.sort_by_neighbours.ensures.same c.deref.ensures.value) filled)
     c.fill.ensures.filled
 
 pub returns-clause-keys : goal.returns-clause-keys
@@ -34,7 +38,7 @@ returns-clause-keys g c =
     (λ filled stays only many worked.
     keys_filled c.new_codes_come_once.ensures (body_of c.args.typed.now) c.args.book.now c.args.ids.now c.args.cases.now c.deref.result.now c.args.kept.now c.fill.new.kept
     (e.work c.args.engine.now) (e.work c.fill.new.engine)
-    c.requires.ones c.len-systems.ensures.valid c.requires.numbers c.requires.lists (c.deref.ensures.value ∙ c.in_ok-demands.ensures)
+    c.requires.ones c.len-systems.ensures.valid c.requires.numbers c.requires.lists (sorted_from _ _ _ _ c.in_ok-demands.ensures c.sort_by_neighbours.ensures.same c.deref.ensures.value)
     (record { filled = filled; stays = stays; only = only; many = many; worked = worked }))
 
 pub returns-clause-grows : goal.returns-clause-grows
@@ -43,6 +47,11 @@ returns-clause-grows g c =
     on_either c.fill.result _ _ _ (returns-clause-keys g c) c.fill.ensures.err_kept
     (λ keys. grows_filled d (IsKeyOf d) c.args.book.now c.args.kept.now c.fill.new.kept keys.new keys.adds)
     (λ same. grows_same d (IsKeyOf d) c.args.book.now c.args.book.now c.args.kept.now c.fill.new.kept refl same)
+
+pub returns-in_err-sort_by_neighbours-clause-grows : goal.returns-in_err-sort_by_neighbours-clause-grows
+returns-in_err-sort_by_neighbours-clause-grows g c =
+    let d = body_of c.args.typed.now in
+    grows_same d (IsKeyOf d) c.args.book.now c.args.book.now c.args.kept.now c.args.kept.now refl refl
 
 pub returns-in_err-demands-clause-grows : goal.returns-in_err-demands-clause-grows
 returns-in_err-demands-clause-grows g c =
@@ -62,7 +71,7 @@ returns-clause-tape g c =
 pub returns-clause-few : goal.returns-clause-few
 returns-clause-few g c =
     let asked = are_asked (body_of c.args.typed.now) c.args.book.now c.args.ids.now c.args.cases.now (g.E.SimEngine.room c.args.engine.now) c.deref.result.now c.cases-cases.result c.years-years.result
-    c.cases-cases.ensures.value c.cases-cases.ensures.high c.years-years.ensures.value c.years-years.ensures.high c.requires.numbers c.requires.lists c.requires.room (c.deref.ensures.value ∙ c.in_ok-demands.ensures) in
+    c.cases-cases.ensures.value c.cases-cases.ensures.high c.years-years.ensures.value c.years-years.ensures.high c.requires.numbers c.requires.lists c.requires.room (sorted_from _ _ _ _ c.in_ok-demands.ensures c.sort_by_neighbours.ensures.same c.deref.ensures.value) in
     on_either c.fill.result _ _ _ c.fill.ensures.many c.fill.ensures.err_kept
     (λ many. few_rows c.args.kept.now c.deref.result.now (length c.fill.new.kept) asked.few many)
     (λ same. let n = ap length same in omega (arith, n))

@@ -1,7 +1,8 @@
-use Rattle.std.proofs.Common.{◌≤◌, All, refl, arith}
+use Rattle.std.proofs.Common.{◌≤◌, All, ap, refl, arith}
 use Rattle.std.proofs.lemmas.Result.{on_ok_weaker}
 use Rattle.deck_lines.specs.Deck.{body_of}
 use Rattle.wasp_session.proofs.GrowSteps.{grows_same, grows_since}
+use Rattle.sim_engine.specs.Engine.{Room}
 use Rattle.wasp_session.proofs.ListSteps.{has_years, year_room}
 use Rattle.wasp_session.proofs.PlanKeys.{simulates_since}
 use Rattle.wasp_session.specs.Keys.{IsKeyOf}
@@ -28,8 +29,8 @@ pub tell_cases-requires-clause-room : goal.tell_cases-requires-clause-room
 tell_cases-requires-clause-room g c κs outlives =
     let r = c.room_for-cells.result in
     let all : All (HasRoom r.0 r.1) c.args.systems.items = rw c.deref.ensures.value at c.room_for-cells.ensures.room in
-    let cells_in : r.0 ≤ (g.E.SimEngine.room c.fill_keys.new.engine).cells = omega (arith, c.in_ok-ready.ensures.cells, c.in_ok-fill_keys.ensures.cells_stay) in
-    let units_in : r.1 ≤ (g.E.SimEngine.room c.fill_keys.new.engine).units = omega (arith, c.in_ok-ready.ensures.units, c.in_ok-fill_keys.ensures.units_stay) in
+    let cells_in : r.0 ≤ (g.E.SimEngine.room c.fill_keys.new.engine).cells = omega (arith, c.in_ok-ready.ensures.cells, ap (λ (x : Room). x.cells) c.in_ok-fill_keys.ensures.room) in
+    let units_in : r.1 ≤ (g.E.SimEngine.room c.fill_keys.new.engine).units = omega (arith, c.in_ok-ready.ensures.units, ap (λ (x : Room). x.units) c.in_ok-fill_keys.ensures.room) in
     year_room (body_of c.args.typed.now) c.args.systems.items r.0 r.1 (g.E.SimEngine.room c.fill_keys.new.engine) c.requires.systems all cells_in units_in
 
 pub tell_cases-requires-clause-filled : goal.tell_cases-requires-clause-filled

@@ -1,4 +1,4 @@
-use Rattle.std.proofs.Common.{arith}
+use Rattle.std.proofs.Common.{◌∙◌}
 use Rattle.deck_lines.specs.Deck.{body_of}
 use Rattle.wasp_session.proofs.CaseSteps.{cases_more}
 use Rattle.wasp_session.proofs.WorkSteps.{details_then}
@@ -12,7 +12,6 @@ loop-c-preserved g c =
     record {
       told = cases_more (body_of c.args.typed.now) c.loop-c.c c.args.text.now.items c.loop-c.text.items c.tell_case.new.text.items
           (e.work c.args.engine.now).detailed (e.work c.loop-c.engine).detailed (e.work c.tell_case.new.engine).detailed before.told one.told;
-      cells_stay = omega (arith, before.cells_stay, one.cells_stay);
-      units_stay = omega (arith, before.units_stay, one.units_stay);
+      room = one.room ∙ before.room;
       work = details_then (e.work c.args.engine.now) (e.work c.loop-c.engine) (e.work c.tell_case.new.engine) before.work one.work;
     }

@@ -1,4 +1,4 @@
-use Rattle.std.proofs.Common.{◌≤◌}
+use Rattle.std.proofs.Common.{◌≡◌}
 use Rattle.deck_lines.specs.Deck.{body_of}
 use Rattle.wasp_session.specs.Said.{AreCasesTold, Tells}
 use Rattle.wasp_session.specs.Steps.{OnlyDetails}
@@ -9,7 +9,6 @@ invariant-loop-c g l =
     let e = g.E.SimEngine in
     record {
       told : Tells (AreCasesTold (body_of l.typed) l.c) l.initial.text.items l.text.items (e.work l.initial.engine).detailed (e.work l.engine).detailed;
-      cells_stay : (e.room l.initial.engine).cells ≤ (e.room l.engine).cells;
-      units_stay : (e.room l.initial.engine).units ≤ (e.room l.engine).units;
+      room : e.room l.engine ≡ e.room l.initial.engine;
       work : OnlyDetails (e.work l.initial.engine) (e.work l.engine);
     }

@@ -80,8 +80,7 @@ plan_year-requires-clause-room g c κs w =
     let e = g.E.SimEngine in
     let in_years : k < years d = omega (arith, c.loop-k-test.true, length_is c.args.table.now c.args.configs.now c.requires.chosen.0 c.requires.chosen.1, c.requires.table.many) in
     let year = year_system_is d c.args.book.now c.args.ids.now k c.get-system.result.now c.requires.numbers in_years c.get-system.ensures.value in
-    year_room_is d k (e.room c.loop-k.engine).cells (e.room c.loop-k.engine).units (e.room c.args.engine.now) c.get-system.result.now c.requires.room in_years year
-    c.loop-k.invariant.cells_stay c.loop-k.invariant.units_stay
+    year_room_is d k (e.room c.loop-k.engine) (e.room c.args.engine.now) c.get-system.result.now c.requires.room in_years year c.loop-k.invariant.room
 
 pub loop-k-preserved : goal.loop-k-preserved
 loop-k-preserved g c =
@@ -115,7 +114,6 @@ loop-k-preserved g c =
       printable = All-push IsPrintableYear ys y l.invariant.printable c.in_ok-plan_year.ensures.printable;
       fits = subst (Fits t.economy) (here ∙ sym next) entry.fits;
       detailed = raised_more k (e.work c.args.engine.now).detailed (e.work l.engine).detailed (e.work c.plan_year.new.engine).detailed l.invariant.detailed c.in_ok-plan_year.ensures.detailed;
-      cells_stay = omega (arith, c.plan_year.ensures.cells_stay, l.invariant.cells_stay);
-      units_stay = omega (arith, c.plan_year.ensures.units_stay, l.invariant.units_stay);
+      room = c.plan_year.ensures.room ∙ l.invariant.room;
       work = details_then (e.work c.args.engine.now) (e.work l.engine) (e.work c.plan_year.new.engine) l.invariant.work c.plan_year.ensures.work;
     })

@@ -1,4 +1,4 @@
-use Rattle.std.proofs.Common.{◌≡◌, ◌≤◌, All, map, take}
+use Rattle.std.proofs.Common.{◌≡◌, All, map, take}
 use Rattle.cost_terms.specs.Cost.{nothing_built}
 use Rattle.cost_terms.specs.CostData.{Fits}
 use Rattle.checked_deck.specs.Economy.{costs}
@@ -25,7 +25,6 @@ invariant-loop-k g l =
       printable : All IsPrintableYear l.years.items;
       fits : Fits l.table.economy l.before;
       detailed : (e.work l.engine).detailed ≡ raised l.k (e.work l.initial.engine).detailed;
-      cells_stay : (e.room l.initial.engine).cells ≤ (e.room l.engine).cells;
-      units_stay : (e.room l.initial.engine).units ≤ (e.room l.engine).units;
+      room : e.room l.engine ≡ e.room l.initial.engine;
       work : OnlyDetails (e.work l.initial.engine) (e.work l.engine);
     }
