@@ -1,0 +1,8 @@
+use Rattle.std.proofs.Common.{◌≡◌, ◌∙◌}
+use Rattle.wasp4.proofs.HourTexts.{never_cut, same_points}
+use Rattle.wasp4.proofs.top.run.Goals as goal
+
+pub returns-in-Some-clause-never_cut : goal.returns-in-Some-clause-never_cut
+returns-in-Some-clause-never_cut g c = λ points asked has fault.
+    let same : c.in-Some.points ≡ points = same_points c.points.result _ c.in-Some.points points c.in-Some.is c.points.ensures.value asked in
+    never_cut points _ _ _ _ _ _ has (λ r told. g.met.K.Sink.within_room c.run_hours.new.sink r (c.run_hours.ensures.sure_room ∙ told)) (rw (fault, same) at c.run_hours.ensures.hours) (c.run_hours.ensures.write.rose fault)
