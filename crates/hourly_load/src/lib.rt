@@ -20,5 +20,6 @@ mod text;
 
 pub use laws::hourlies_are_one;
 pub use line::{LoadLine, read_load};
+pub use scan::number;
 pub use shape::{Hourly, MAX_LOADS, shape_of};
 pub use text::write_hourly;

@@ -60,7 +60,7 @@ pub(crate) fn next_word(line: &[u8], at: usize) -> Option<Span>
 }
 
 /// The number that a word spells: 1 to 18 decimal digits.
-pub(crate) fn number(word: &[u8]) -> Option<u64>
+pub fn number(word: &[u8]) -> Option<u64>
     ensures { result ≡ number_of word.now }
 {
     if word.is_empty() || word.len() > 18 {
