@@ -1,5 +1,5 @@
 -- Building in two steps costs at most two dollars less than building at once: only the floors can make it cheaper.
-use Rattle.std.proofs.Common.{◌≡◌, ℕ, ◌+◌, ◌-◌, ◌*◌, ◌/◌, ◌≤◌, ◌++◌, List, length, map, drop, get_or, ◌∙◌, arith, sum_by, ⊎_elim}
+use Rattle.std.proofs.Common.{◌≡◌, ℕ, ◌+◌, ◌-◌, ◌*◌, ◌/◌, ◌≤◌, List, length, map, drop, arith, sum_by, ⊎_elim}
 use Rattle.std.specs.List.{flat_map}
 use Rattle.std.proofs.Math.Nat.{div-le_self, div-mul-le_self, mul-le-mul_left}
 use Rattle.std.proofs.lemmas.Bool.{cases_eq}
@@ -14,7 +14,6 @@ use Rattle.cost_terms.specs.CostData.{Fits}
 use Rattle.cost_terms.specs.declared.additions.Horizon.{Horizon}
 use Rattle.cost_terms.specs.declared.additions.Item.{Item}
 use Rattle.cost_terms.specs.declared.prices.CostData.{CostData}
-use Rattle.cost_terms.specs.declared.prices.ThermalCost.{ThermalCost}
 use Rattle.cost_terms.proofs.Additivity.{IsMoreTogether, IsPerUnit, groups_even, of_projects, of_units, units_even, units_more}
 use Rattle.cost_terms.proofs.Steps.{counted, groups_long}
 use Rattle.cost_terms.proofs.Salvage.{within_build}

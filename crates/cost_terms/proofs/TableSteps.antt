@@ -1,13 +1,13 @@
 -- Steps of the loops over the tables of a year.
-use Rattle.std.proofs.Common.{◌≡◌, ℕ, ◌+◌, ◌-◌, ◌*◌, ◌/◌, ◌<◌, ◌≤◌, ◌++◌, List, [], ◌∷◌, length, map, replicate, take, drop, get_or, ap, ◌∙◌, sym, subst, arith, sum_by}
+use Rattle.std.proofs.Common.{◌≡◌, ℕ, ◌+◌, ◌-◌, ◌*◌, ◌/◌, ◌<◌, ◌≤◌, List, [], ◌∷◌, length, map, take, get_or, ap, ◌∙◌, sym, subst, arith, sum_by}
 use Rattle.std.specs.List.{flat_map}
 use Rattle.std.proofs.Math.ListN.{get_or-append}
 use Rattle.std.proofs.Math.Nat.{div-le_of_le-mul, mul-le-mul}
 use Rattle.std.proofs.lemmas.List.{get_or-append-add, get_or-map, get_or-replicate, length-map, length-replicate}
 use Rattle.std.proofs.lemmas.List.Sums.{sum_by-append}
 use Rattle.wasp_fixed.specs.declared.numbers.TheConstants.{ONE}
-use Rattle.cost_terms.specs.Cost.{added_units, added_projects, build, domestic, foreign, group_steps, horizon, inventory, item_salvage, items, nothing_built, salvage, stock, thermal_steps}
-use Rattle.cost_terms.specs.CostData.{Fits, IsEconomy, IsThermalCost, greatest}
+use Rattle.cost_terms.specs.Cost.{added_units, added_projects, build, domestic, foreign, group_steps, horizon, inventory, item_salvage, items, nothing_built, salvage, thermal_steps}
+use Rattle.cost_terms.specs.CostData.{Fits, IsThermalCost, greatest}
 use Rattle.cost_terms.specs.Totals.{Adds, IsHorizon, IsItem, IsSum, IsWithin, nothing}
 use Rattle.cost_terms.specs.declared.additions.Horizon.{Horizon}
 use Rattle.cost_terms.specs.declared.additions.Item.{Item}

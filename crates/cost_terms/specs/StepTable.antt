@@ -2,10 +2,9 @@
 -- of a thermal candidate, and the sums over the first projects of a group. A thermal candidate's salvage
 -- depends on the units that are added alone, and has a floor of its own; all other sums are those of the
 -- configuration after less those of the configuration before.
-use Rattle.std.specs.Prelude.{◌≡◌, ℕ, ◌+◌, ◌-◌, ◌*◌, ◌≤◌, ◌<◌, List, [], length, drop, map, sum_by, slice_index, slice_index_or}
+use Rattle.std.specs.Prelude.{◌≡◌, ℕ, ◌+◌, ◌-◌, ◌≤◌, ◌<◌, List, [], length, map, sum_by, slice_index, slice_index_or}
 use Rattle.std.specs.List.{flat_map}
 use Rattle.wasp_fixed.specs.Discounts.{end_factor}
-use Rattle.wasp_fixed.specs.declared.numbers.TheConstants.{ONE}
 use Rattle.cost_terms.specs.Cost.{added_projects, added_units, build, domestic, foreign, group_steps, horizon, inventory, item_salvage, items, nothing_built, salvage, stock, thermal_steps}
 use Rattle.cost_terms.specs.CostData.{Fits}
 use Rattle.cost_terms.specs.Totals.{Adds, IsWithin, nothing}

@@ -133,7 +133,13 @@ impl Totals {
     }
 
     /// The sums with so many units of a thermal candidate, whose salvage is known.
-    pub fn add_salvaged(&self, plant: &ThermalCost, count: u64, salvage: u64, horizon: &Horizon) -> Totals
+    pub fn add_salvaged(
+        &self,
+        plant: &ThermalCost,
+        count: u64,
+        salvage: u64,
+        horizon: &Horizon,
+    ) -> Totals
         requires plant { IsThermalCost plant.now }
         requires count { count ≤ 128 }
         requires horizon { IsHorizon horizon.now }

@@ -55,7 +55,11 @@ pub struct Standing {
 }
 
 /// The salvage of each number of a candidate's units.
-fn unit_salvages(alloc: Global, plant: &ThermalCost, horizon: &Horizon) -> Result<Vec<u64>, AllocError>
+fn unit_salvages(
+    alloc: Global,
+    plant: &ThermalCost,
+    horizon: &Horizon,
+) -> Result<Vec<u64>, AllocError>
     requires plant { IsThermalCost plant.now }
     requires horizon { IsHorizon horizon.now }
     ensures { IfOk result (λ row. AreUnitSalvages horizon.now plant.now row.items) }
@@ -69,7 +73,11 @@ fn unit_salvages(alloc: Global, plant: &ThermalCost, horizon: &Horizon) -> Resul
 }
 
 /// The same for each thermal candidate.
-fn unit_rows(alloc: Global, costs: &CostData, horizon: &Horizon) -> Result<Vec<Listed<u64>>, AllocError>
+fn unit_rows(
+    alloc: Global,
+    costs: &CostData,
+    horizon: &Horizon,
+) -> Result<Vec<Listed<u64>>, AllocError>
     requires costs { IsEconomy costs.now }
     requires horizon { IsHorizon horizon.now }
     ensures { IfOk result (λ rows. AreUnitRows horizon.now costs.now.thermal rows.items) }
@@ -83,7 +91,11 @@ fn unit_rows(alloc: Global, costs: &CostData, horizon: &Horizon) -> Result<Vec<L
 }
 
 /// The sums over each number of a group's candidate projects.
-fn project_sums(alloc: Global, group: &GroupCost, horizon: &Horizon) -> Result<Vec<Totals>, AllocError>
+fn project_sums(
+    alloc: Global,
+    group: &GroupCost,
+    horizon: &Horizon,
+) -> Result<Vec<Totals>, AllocError>
     requires group { IsGroupCost group.now }
     requires horizon { IsHorizon horizon.now }
     ensures { IfOk result (λ row. AreProjectSums horizon.now group.now row.items) }
@@ -97,7 +109,11 @@ fn project_sums(alloc: Global, group: &GroupCost, horizon: &Horizon) -> Result<V
 }
 
 /// The same for each group.
-fn project_rows(alloc: Global, costs: &CostData, horizon: &Horizon) -> Result<Vec<Listed<Totals>>, AllocError>
+fn project_rows(
+    alloc: Global,
+    costs: &CostData,
+    horizon: &Horizon,
+) -> Result<Vec<Listed<Totals>>, AllocError>
     requires costs { IsEconomy costs.now }
     requires horizon { IsHorizon horizon.now }
     ensures { IfOk result (λ rows. AreProjectRows horizon.now costs.now.groups rows.items) }
@@ -147,7 +163,10 @@ fn project_totals(costs: &CostData, table: &StepTable, config: &Config, thermal:
     let rows = table.projects.as_slice();
     let mut totals = thermal;
     for k in 0..rows.len() {
-        totals = totals.plus(&rows[k].as_slice()[config.get(first + k) as usize], &table.horizon);
+        totals = totals.plus(
+            &rows[k].as_slice()[config.get(first + k) as usize],
+            &table.horizon,
+        );
     }
     totals
 }
@@ -222,7 +241,12 @@ impl StepTable {
         let costs = economy.costs();
         let thermal = thermal_sums(costs, self, config);
         let totals = project_totals(costs, self, config, thermal);
-        let net = self.net(totals.domestic, totals.foreign, totals.inventory, totals.salvage);
+        let net = self.net(
+            totals.domestic,
+            totals.foreign,
+            totals.inventory,
+            totals.salvage,
+        );
         Standing {
             config: *config,
             domestic: totals.domestic,

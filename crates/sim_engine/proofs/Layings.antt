@@ -1,10 +1,10 @@
 -- One unit more of blocks whose units are loaded one after the other.
-use Rattle.std.proofs.Common.{◌≡◌, ℕ, Bool, set, zero, suc, ◌+◌, ◌-◌, ◌/◌, ◌<◌, ◌≤◌, ◌++◌, ◌==◌, cond, not, true, false, List, [], ◌∷◌, length, get_or, map, take, sym, ap, subst, ◌∙◌, arith, refl, inl, inr, length-append, eq-eqb}
-use Rattle.std.specs.List.{AllByRecursion, All, filter}
-use Rattle.std.proofs.lemmas.Bool.{cases_eq, cases_lt, ne_eqb}
+use Rattle.std.proofs.Common.{◌≡◌, ℕ, Bool, set, suc, ◌+◌, ◌-◌, ◌/◌, ◌<◌, ◌++◌, ◌==◌, cond, true, false, List, [], ◌∷◌, length, get_or, map, take, sym, ap, subst, ◌∙◌, arith, refl, inl, inr, length-append, eq-eqb}
+use Rattle.std.specs.List.{AllByRecursion}
+use Rattle.std.proofs.lemmas.Bool.{cases_lt, ne_eqb}
 use Rattle.std.proofs.lemmas.Grind.{common_steps}
-use Rattle.std.proofs.lemmas.List.{append-nil, get_or-take, length-take-le, map-append, take-append-le, take_more, take_all}
-use Rattle.std.proofs.lemmas.List.Elements.{All-push, filter-append}
+use Rattle.std.proofs.lemmas.List.{map-append, take-append-le, take_more, take_all}
+use Rattle.std.proofs.lemmas.List.Elements.{All-push}
 use Rattle.std.proofs.lemmas.List.Sums.{sum_by_push}
 use Rattle.wasp_fixed.specs.declared.numbers.TheConstants.{M}
 use Rattle.convolution.specs.EquivalentLoad.{Part}
@@ -14,10 +14,10 @@ use Rattle.sim_engine.specs.Stack.{grown, place_of, parts_of}
 use Rattle.sim_engine.specs.Stack as Stacks
 use Rattle.sim_engine.specs.declared.stack.Loaded.{Loaded}
 use Rattle.sim_engine.proofs.BlockParts.{all_units, loaded-parts, new_of, others_other, others_same, part, parts_of-more}
-use Rattle.sim_engine.proofs.BlockSteps.{block_fits, block_sum}
+use Rattle.sim_engine.proofs.BlockSteps.{block_sum}
 use Rattle.sim_engine.proofs.StackSteps.{grown-last, more}
 use Rattle.sim_fast.specs.Behind.{cells_of}
-use Rattle.sim_fast.specs.Turns.{IsTurn, no_turn, part_of, turn_at}
+use Rattle.sim_fast.specs.Turns.{IsTurn, part_of, turn_at}
 use Rattle.sim_fast.specs.declared.turn.Turn.{Turn}
 use Rattle.sim_engine.specs.Laid.{IsLaid, IsNew, IsPlaced, below, block_at, mark_at, up_to}
 use Rattle.sim_engine.specs.declared.lay.Mark.{Mark}

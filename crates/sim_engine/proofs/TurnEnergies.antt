@@ -1,8 +1,9 @@
 -- The energies of laid blocks are those of the period.
-use Rattle.std.proofs.Common.{◌≡◌, ℕ, Bool, zero, suc, ◌+◌, ◌-◌, ◌*◌, ◌/◌, ◌<◌, ◌≤◌, ◌++◌, List, [], ◌∷◌, ltb, true, false, length, get_or, map, take, sum, sym, ap, subst, ◌∙◌, arith, refl, cond}
+use Rattle.std.proofs.Common.{◌≡◌, ℕ, zero, suc, ◌+◌, ◌-◌, ◌*◌, ◌/◌, ◌%◌, ◌<◌, ◌≤◌, ◌++◌, List, [], ◌∷◌, ltb, true, false, length, get_or, map, take, sum, sym, ap, ◌∙◌, arith, lit<, refl, cond}
 use Rattle.std.specs.List.{AllByRecursion, range_with_len}
 use Rattle.std.proofs.lemmas.List.Elements.{All-take, recursion_from_All}
 use Rattle.std.proofs.lemmas.List.{take_all}
+use Rattle.std.proofs.Math.Nat.{mul-add-div_right}
 use Rattle.std.proofs.lemmas.List.FromFn.{map-range_with_len_more, sum_by-map-range_with_len_more}
 use Rattle.wasp_fixed.specs.Curves.{area, before, cell, IsAtMostOne}
 use Rattle.wasp_fixed.specs.declared.numbers.TheConstants.{M, ONE}
@@ -11,7 +12,7 @@ use Rattle.convolution.proofs.Means.{two_states-div-le}
 use Rattle.loading_order.specs.declared.blocks.Block.{Block}
 use Rattle.sim_engine.specs.Loading.{block_energy, cells_in, energies, loaded, lolp, others, unserved}
 use Rattle.sim_fast.specs.Behind.{cells_of}
-use Rattle.sim_fast.specs.Turns.{IsTurn, Stands, lower_of, part_of, past, turn_at, upper_of}
+use Rattle.sim_fast.specs.Turns.{IsTurn, Stands, part_of, past, turn_at}
 use Rattle.sim_fast.specs.declared.turn.Turn.{Turn}
 use Rattle.sim_engine.specs.Laid.{IsLaid, IsPlaced, below, block_at, covered, energy_at, mark_at, period_with, up_to}
 use Rattle.sim_engine.specs.declared.lay.Mark.{Mark}
@@ -123,3 +124,12 @@ covered-most base step av bs ts ms cells lower upper k most laid s h =
 pub energies-are : (base : ℕ → ℕ) (bs : List Block) (av : List ℕ) (top step hours : ℕ) (ts : List Turn) (ms : List Mark) (cells lower upper : List ℕ) → IsLaid step av bs (length bs) ts ms → Stands base ts (length ts) cells lower upper → map (λ k. energy_at step hours bs av ms lower upper k) (range_with_len 0 (length bs)) ≡ energies (period_with base bs av top step hours)
 energies-are base bs av top step hours ts ms cells lower upper laid s =
     maps-same _ _ 0 (length bs) (λ k h. energy-is base bs av top step hours ts ms cells lower upper k laid s (omega (arith, h)))
+
+-- a quotient with what is whole before the factor
+whole-parted : (p q r h : ℕ) → p ≡ q * (M * ONE) + r → q * h + r * h / (M * ONE) ≡ p * h / (M * ONE)
+whole-parted p q r h e =
+    let n : p * h ≡ q * h * (M * ONE) + r * h = rw e (omega arith) in
+    sym (ap (λ x. x / (M * ONE)) n ∙ mul-add-div_right {m = M * ONE} (lit< tt) (q * h) (r * h))
+
+pub whole-first : (p h : ℕ) → p / (M * ONE) * h + p % (M * ONE) * h / (M * ONE) ≡ p * h / (M * ONE)
+whole-first p h = whole-parted p (p / (M * ONE)) (p % (M * ONE)) h (omega arith)

@@ -1,5 +1,5 @@
 -- Blocks whose units are loaded one after the other. This program's own.
-use Rattle.std.specs.Prelude.{◌≡◌, ℕ, ◌+◌, ◌*◌, ◌/◌, ◌<◌, false, List, All, length, map, take, slice_index, slice_index_or, if◌then◌else◌}
+use Rattle.std.specs.Prelude.{◌≡◌, ℕ, ◌+◌, ◌-◌, ◌*◌, ◌/◌, ◌<◌, false, List, All, length, map, take, slice_index, slice_index_or, if◌then◌else◌}
 use Rattle.std.specs.List.{AllByRecursion}
 use Rattle.wasp_fixed.specs.declared.numbers.TheConstants.{M, ONE}
 use Rattle.loading_order.specs.declared.blocks.Block.{Block}
@@ -8,6 +8,7 @@ use Rattle.sim_fast.specs.Behind.{cells_of}
 use Rattle.sim_fast.specs.Turns.{IsTurn, part_of, turn_at}
 use Rattle.sim_fast.specs.declared.turn.Turn.{Turn}
 use Rattle.sim_engine.specs.declared.lay.Mark.{Mark}
+use Rattle.sim_engine.specs.declared.lay.Span.{Span}
 
 -- no block is of the unit
 abbrev pub IsNew : ℕ → List Block → Type 0
@@ -42,6 +43,22 @@ pub record IsLaid (step : ℕ) (available : List ℕ) (blocks : List Block) (k :
   pub cells : cells_in step (take k blocks) ≡ cells_of (map part_of turns)
   pub places : (i : ℕ) → i < k → IsPlaced step available blocks turns i (mark_at marks i)
   pub sound : All IsTurn turns
+
+-- the turn of a unit with its outage rate in a period
+abbrev pub turn_of : List ℕ → Span → Turn
+turn_of available s = record { least = s.least; full = s.full; rate = M - slice_index available s.unit }
+
+-- the first k blocks are the units, whatever their availabilities
+abbrev pub IsLaidOut : ℕ → List Block → ℕ → List Span → List Mark → Type 0
+IsLaidOut step blocks k spans marks = (available : List ℕ) → IsLaid step available blocks k (map (turn_of available) spans) marks
+
+-- what contracts see of blocks that are laid: the MW of a cell, 0 where none are, the blocks, their units, and where
+-- each block stands
+pub record LayingView : Type 0 where
+  pub step : ℕ
+  pub blocks : List Block
+  pub spans : List Span
+  pub marks : List Mark
 
 -- what a block covers, from what its unit's base block and its peak block cover
 abbrev pub covered : Mark → List ℕ → List ℕ → ℕ

@@ -3,6 +3,7 @@ pub mod Dispatch
 pub mod Engine
 pub mod Generation
 pub mod Laid
+pub mod LoadData
 pub mod Loading
 pub mod Prepared
 pub mod Row

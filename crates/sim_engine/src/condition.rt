@@ -7,11 +7,9 @@ ghost use Rattle.sim_engine.specs.Prepared.{AreSmall, HasRoom, IsPrepared, Keeps
 ghost use Rattle.sim_engine.specs.Row.{domestic_price, foreign_price, over_periods, period_priced, variable_price, year_unserved};
 
 use crate::costs::{Costs, price_blocks};
-use crate::either::run_either;
+use crate::either::{simulate_in_full, simulate_kept};
 use crate::fleet::Fleet;
 use crate::period::{Bench, Missing};
-use crate::shelves::place_of;
-use crate::water::fill_thermal_load;
 use plant_data::Config;
 use wasp_fixed::ONE;
 use year_system::YearSystem;
@@ -38,20 +36,10 @@ pub fn simulate_period(
     ensures most { result.unserved ≤ 400019 * hours system.now }
     ensures kept { KeepsRoom bench.old bench.new }
 {
-    let step = system.step();
-    let loads = system.loads();
-    let top = loads[period].peak.div_ceil(step);
-    fill_thermal_load(system, config, period, condition, &mut bench.spare);
-    fleet.write_available(loads.len(), period, bench.available.as_mut_slice());
-    run_either(
-        bench,
-        place_of(period, condition),
-        fleet.blocks(),
-        fleet.units().len(),
-        top,
-        step,
-        system.hours(),
-    )
+    match simulate_kept(system, config, fleet, period, condition, bench) {
+        Some(missing) => missing,
+        None => simulate_in_full(system, config, fleet, period, condition, bench),
+    }
 }
 
 /// What one period under one condition adds.

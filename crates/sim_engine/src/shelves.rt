@@ -1,9 +1,10 @@
 //! What the fast engine keeps from one run to the next, and what it works on.
 ghost use Rattle.std.specs.Prelude.{◌≡◌, ◌+◌, ◌*◌, ◌^◌, ◌≤◌};
 
-use crate::lay::Mark;
+use crate::keyed_shelf::KeyedShelf;
+use crate::laying::Laying;
 use crate::plain::MAX_BLOCKS;
-use sim_fast::{CurveShelf, MAX_UNITS, Turn, Workbench};
+use sim_fast::{MAX_UNITS, Turn, Workbench};
 use std::alloc::Global;
 use wasp_fixed::OutOfMemory;
 
@@ -29,12 +30,6 @@ const NO_TURN: Turn = Turn {
     rate: 0,
 };
 
-/// A mark of no block, likewise.
-const NO_MARK: Mark = Mark {
-    turn: 0,
-    upper: false,
-};
-
 /// The place of a period under a condition.
 pub fn place_of(period: usize, condition: usize) -> usize {
     period.saturating_mul(CONDITIONS).saturating_add(condition)
@@ -57,13 +52,13 @@ fn count_kept(cells: usize, units: usize) -> usize
 #[derive(Drop)]
 pub struct Shelves {
     /// What is kept of each period and condition, at its place.
-    pub shelves: Vec<CurveShelf>,
+    pub shelves: Vec<KeyedShelf>,
+    /// The blocks of the configuration.
+    pub laying: Laying,
+    /// Its units in a period, in the order in which they are loaded.
+    pub turns: Vec<Turn>,
     /// Where the units stand that are loaded onto the load of a shelf.
     pub workbench: Workbench,
-    /// The units in the order in which they are loaded.
-    pub turns: Vec<Turn>,
-    /// Where each block stands among them.
-    pub marks: Vec<Mark>,
 }
 
 impl Shelves {
@@ -71,9 +66,9 @@ impl Shelves {
     pub fn new(alloc: Global) -> Shelves {
         Shelves {
             shelves: Vec::new(alloc),
-            workbench: Workbench::new(alloc),
+            laying: Laying::new(alloc),
             turns: Vec::new(alloc),
-            marks: Vec::new(alloc),
+            workbench: Workbench::new(alloc),
         }
     }
 
@@ -85,13 +80,13 @@ impl Shelves {
         let count = count_kept(cells, units);
         let mut shelves = Vec::new(alloc);
         for _ in 0..PLACES {
-            shelves.push(CurveShelf::with_room(alloc, cells, count)?)?;
+            shelves.push(KeyedShelf::with_room(alloc, cells, count)?)?;
         }
         Ok(Shelves {
             shelves,
+            laying: Laying::with_room(alloc, MAX_BLOCKS)?,
+            turns: vec![in alloc; NO_TURN; MAX_UNITS]?,
             workbench: Workbench::with_room(alloc, cells)?,
-            turns: vec![in alloc; NO_TURN; MAX_BLOCKS]?,
-            marks: vec![in alloc; NO_MARK; MAX_BLOCKS]?,
         })
     }
 

@@ -6,7 +6,8 @@ ghost use Rattle.sim_fast.specs.Turns.{StandsAt};
 ghost use Rattle.sim_fast.specs.declared.turn.TheConstants.{MAX_UNITS};
 ghost use Rattle.sim_engine.specs.Laid.{IsLaid, period_with};
 
-use crate::lay::{Mark, lay_blocks};
+use crate::lay::Mark;
+use crate::laying::Laying;
 use crate::period::Missing;
 use crate::turn_energies::write_energies;
 use loading_order::Block;
@@ -74,13 +75,26 @@ fn load_turns(
     );
 }
 
-/// Runs a period whose load, of at most `top` cells, stands on a shelf, and writes the energies of its blocks. It
-/// answers none where some unit's blocks are not loaded one after the other.
+/// Whether there is room for so many units.
+fn has_room(shelf: &CurveShelf, workbench: &Workbench, turns: &[Turn], units: usize) -> bool
+    ensures rooms { IsTrue result → shelf.now.room ≡ workbench.now.room }
+    ensures places { IsTrue result → MAX_UNITS ≤ workbench.now.places }
+    ensures turns { IsTrue result → units ≤ length turns.now }
+    ensures few { IsTrue result → units ≤ MAX_UNITS }
+{
+    shelf.room() == workbench.room()
+        && workbench.places() >= MAX_UNITS
+        && turns.len() >= units
+        && units <= MAX_UNITS
+}
+
+/// Runs a period whose load, of at most `top` cells, stands on a shelf, and writes the energies of its blocks, which
+/// are laid. It answers none where there is no room.
 pub fn run_turns(
     shelf: &mut CurveShelf,
     workbench: &mut Workbench,
+    laying: &Laying,
     turns: &mut [Turn],
-    marks: &mut [Mark],
     blocks: &[Block],
     available: &[u64],
     top: u64,
@@ -88,10 +102,8 @@ pub fn run_turns(
     hours: u64,
     room: &mut [u64],
 ) -> Option<Missing>
-    requires rooms { shelf.old.room ≡ workbench.old.room }
-    requires places { MAX_UNITS ≤ workbench.old.places }
-    requires turns { length blocks.now ≤ length turns.old }
-    requires marks { length blocks.now ≤ length marks.old }
+    requires laid { laying.now.blocks ≡ blocks.now }
+    requires laid_step { laying.now.step ≡ step }
     requires units { All (λ b. b.unit < length available.now) blocks.now }
     requires available { All (λ a. a ≤ M) available.now }
     requires top { top ≤ 65536 }
@@ -107,20 +119,17 @@ pub fn run_turns(
     ensures small { IfSome result (λ m. m.lolp ≤ ONE) }
     ensures most { IfSome result (λ m. m.unserved ≤ top * (step * hours)) }
     ensures shelf { shelf.new ≡ shelf.old }
-    ensures bench_room { workbench.new.room ≡ workbench.old.room }
-    ensures bench_places { workbench.new.places ≡ workbench.old.places }
 {
-    let Some(count) = lay_blocks(blocks, available, step, turns, marks) else {
-        return None;
-    };
-    if count > MAX_UNITS {
+    let count = laying.len();
+    if !has_room(shelf, workbench, turns, count) {
         return None;
     }
+    laying.write(available, turns);
     load_turns(
         shelf,
         workbench,
         &turns[..count],
-        marks,
+        laying.marks(),
         blocks,
         available,
         step,
@@ -131,7 +140,7 @@ pub fn run_turns(
 }
 
 /// Puts a load on a shelf, if it is not there and there is room, and answers whether it is there.
-fn match_load(shelf: &mut CurveShelf, load: &[u32]) -> bool
+pub fn match_load(shelf: &mut CurveShelf, load: &[u32]) -> bool
     requires small { IsAtMostOne (cell load.now) }
     ensures value { IsTrue result → (x : ℕ) → cell shelf.new.load x ≡ cell load.now x }
     ensures room { shelf.new.room ≡ shelf.old.room }
@@ -144,62 +153,4 @@ fn match_load(shelf: &mut CurveShelf, load: &[u32]) -> bool
     }
     shelf.set_load(load);
     true
-}
-
-/// Whether there is room for so many blocks.
-fn has_room(
-    shelf: &CurveShelf,
-    workbench: &Workbench,
-    turns: &[Turn],
-    marks: &[Mark],
-    blocks: usize,
-) -> bool
-    ensures rooms { IsTrue result → shelf.now.room ≡ workbench.now.room }
-    ensures places { IsTrue result → MAX_UNITS ≤ workbench.now.places }
-    ensures turns { IsTrue result → blocks ≤ length turns.now }
-    ensures marks { IsTrue result → blocks ≤ length marks.now }
-{
-    shelf.room() == workbench.room()
-        && workbench.places() >= MAX_UNITS
-        && turns.len() >= blocks
-        && marks.len() >= blocks
-}
-
-/// Runs a period with a load on a shelf, and writes the energies of its blocks. It answers none where there is no
-/// room, or some unit's blocks are not loaded one after the other.
-pub fn run_kept(
-    shelf: &mut CurveShelf,
-    workbench: &mut Workbench,
-    turns: &mut [Turn],
-    marks: &mut [Mark],
-    load: &[u32],
-    blocks: &[Block],
-    available: &[u64],
-    top: u64,
-    step: u64,
-    hours: u64,
-    room: &mut [u64],
-) -> Option<Missing>
-    requires small { IsAtMostOne (cell load.now) }
-    requires units { All (λ b. b.unit < length available.now) blocks.now }
-    requires available { All (λ a. a ≤ M) available.now }
-    requires top { top ≤ 65536 }
-    requires step { 1 ≤ step }
-    requires hours { step * hours ≤ 175200 }
-    requires cells { cells_in step blocks.now ≤ 65536 }
-    requires room { length blocks.now ≤ length room.old }
-    ensures energies { IfSome result (λ m. take (length blocks.now) room.new ≡ energies (period_with (cell load.now) blocks.now available.now top step hours)) }
-    ensures bounded { IfSome result (λ m. All (λ e. e < 2 ^ 40) (take (length blocks.now) room.new)) }
-    ensures total { IfSome result (λ m. sum (take (length blocks.now) room.new) ≤ cells_in step blocks.now * (step * hours)) }
-    ensures lolp { IfSome result (λ m. m.lolp ≡ lolp (period_with (cell load.now) blocks.now available.now top step hours)) }
-    ensures unserved { IfSome result (λ m. m.unserved ≡ unserved (period_with (cell load.now) blocks.now available.now top step hours)) }
-    ensures few { IfSome result (λ m. m.lolp ≤ ONE) }
-    ensures most { IfSome result (λ m. m.unserved ≤ top * (step * hours)) }
-{
-    if !has_room(shelf, workbench, turns, marks, blocks.len()) || !match_load(shelf, load) {
-        return None;
-    }
-    run_turns(
-        shelf, workbench, turns, marks, blocks, available, top, step, hours, room,
-    )
 }

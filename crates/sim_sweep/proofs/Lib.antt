@@ -16,4 +16,5 @@ mod SharedSteps
 mod TallySteps
 pub mod TogetherSteps
 pub mod WorkSteps
+mod WorkedRows
 mod WorkerSteps

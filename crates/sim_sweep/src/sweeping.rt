@@ -1,7 +1,7 @@
 //! The sweep: all workers go through all demands, and their seats come back as one.
 ghost use Rattle.std.specs.Prelude.{◌≡◌, ℕ, ◌+◌, ◌*◌, ◌-◌, ◌^◌, ◌<◌, ◌≤◌, [], ◌∷◌, ◌++◌, All, IfOk, OnErr, OnOk, length, vec_capacity};
 ghost use Rattle.board_core.specs.Lists.{IsIn, total};
-ghost use Rattle.sim_board.specs.Seats.{SeatIs};
+ghost use Rattle.sim_board.specs.Seats.{HasFilled, SeatIs};
 ghost use Rattle.sim_sweep.specs.Demands.{IsDemand};
 ghost use Rattle.sim_sweep.specs.Due.{IsDueIn};
 ghost use Rattle.sim_sweep.specs.Workers.{CanSweep, HasSeenAll, IsReady, SeesAll, SweepsAll, share_of, times_made};
@@ -93,9 +93,14 @@ fn join_all<D: Due>(board: &Board<D>, seat: &mut BoardSeat, others: &mut Vec<Boa
     }
 }
 
-/// All workers go through all demands, each with a seat and an engine. Each demanded code that stood nowhere is
-/// simulated by the one engine whose seat got it; no other is simulated. Afterwards there is one seat with the whole
-/// share and nothing in hand, which has seen every demanded code in its slot, so that each of these is filled.
+/// All workers go through all demands, each with a seat and an engine of its own, in a thread of its own; one engine
+/// makes no thread. Each demanded code that is not of the start is simulated by the one engine whose seat got it, and
+/// no other is. Afterwards there is one seat with the whole share and nothing in hand, and every demanded code stands
+/// in a filled slot. It takes no memory and never refuses.
+///
+/// Each worker begins at its own share of the demands and goes on over the rest, so that neighbours in the list mostly
+/// stay with one engine, and nobody waits for a code that another has in hand. No seat has taken a slot before, as
+/// after `Board::start` and `split_for`.
 pub fn sweep<E: SimEngine, D: Due, R: Threads + Sync>(
     rt: &R,
     board: &Board<D>,
@@ -120,6 +125,7 @@ pub fn sweep<E: SimEngine, D: Due, R: Threads + Sync>(
     ensures ready { IsReady board.now seat.new }
     ensures whole { share_of seat.new ≡ 64 }
     ensures all { HasSeenAll seat.new demands.now }
+    ensures filled { All (λ d. HasFilled seat.new d.code) demands.now }
     ensures swept { SweepsAll (record { room = E.room; work = E.work }) book.now board.now.start demands.now tally.old tally.new engines.old engines.new }
 {
     let filled = sweep_parts(

@@ -1,4 +1,4 @@
-use Rattle.std.proofs.Common.{◌≡◌, ℕ, ◌+◌, ◌-◌, ◌*◌, ◌<◌, ◌≤◌, List, [], ◌∷◌, length, map, get_or, ap, ◌∙◌, sym, sum_by, arith}
+use Rattle.std.proofs.Common.{◌≡◌, ℕ, ◌-◌, ◌<◌, List, [], length, map, get_or, ap, ◌∙◌, sum_by, arith}
 use Rattle.std.proofs.lemmas.List.{get_or_default, take_all}
 use Rattle.cost_terms.specs.Cost.{added_units, item_salvage, thermal_steps}
 use Rattle.cost_terms.specs.declared.prices.ThermalCost.{ThermalCost}

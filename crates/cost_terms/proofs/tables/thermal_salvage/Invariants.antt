@@ -1,4 +1,4 @@
-use Rattle.std.proofs.Common.{◌≡◌, ◌^◌, ℕ, ◌-◌, ◌*◌, ◌≤◌, map, sum_by, take}
+use Rattle.std.proofs.Common.{◌≡◌, ℕ, ◌-◌, ◌*◌, ◌≤◌, map, sum_by, take}
 use Rattle.cost_terms.specs.Cost.{added_units, item_salvage, thermal_steps}
 use Rattle.cost_terms.specs.declared.prices.ThermalCost.{ThermalCost}
 use Rattle.cost_terms.proofs.tables.thermal_salvage.Given as goal

@@ -1,7 +1,6 @@
-use Rattle.std.proofs.Common.{◌≡◌, ◌<◌, ℕ, List, length, map, take, ◌∙◌, ap}
+use Rattle.std.proofs.Common.{length, map, ◌∙◌}
 use Rattle.std.specs.List.{range_with_len}
 use Rattle.wasp_fixed.specs.Curves.{cell}
-use Rattle.sim_fast.specs.Turns.{Stands}
 use Rattle.sim_engine.specs.Laid.{energy_at}
 use Rattle.sim_engine.proofs.TurnEnergies.{covered-most, energies-are}
 use Rattle.sim_engine.proofs.turn_period.load_turns.Goals as goal

@@ -1,5 +1,6 @@
-use Rattle.std.proofs.Common.{rules, [], ◌≡◌, ℕ, ◌+◌, ◌∷◌, List, length, arith, subst}
+use Rattle.std.proofs.Common.{rules, [], ◌≡◌, ℕ, ◌+◌, ◌∷◌, List, length, get_or, inr, arith, subst}
 use Rattle.board_core.specs.Lists.{IsIn, total}
+use Rattle.board_core.proofs.Lists.{is_in_at}
 use Rattle.sim_board.specs.Seats.{SeatIs}
 use Rattle.sim_sweep.specs.Workers.{EngineIs, HasSwept, SweepsAll, share_of}
 use Rattle.sim_sweep.proofs.GatherSteps.{each_length, first_all, fresh_cons, sees_cons, shares_stay, swept_all, written}
@@ -43,3 +44,8 @@ returns-clause-swept g c =
     subst (λ (start : List ℕ). SweepsAll of c.args.book.now start c.args.demands.now c.args.tally.now c.count.new.self c.args.engines.now c.sweep_parts-filled.new.engines) from
     (swept_all {X = g.row.E.Denot} of c.args.book.now c.args.demands.now (c.args.seat.now ∷ olds) (c.sweep_parts-filled.new.seat ∷ news) c.args.engines.now c.sweep_parts-filled.new.engines c.join_all.new.seat swept
     (fresh_cons c.args.seat.now olds c.requires.fresh.0 fresh) c.knows.ensures (returns-clause-whole g c) made (sees_cons c.sweep_parts-filled.new.seat c.join_all.new.seat news c.join_all.ensures.seen theirs) (returns-clause-all g c) c.sweep_parts-filled.result c.args.tally.now c.count.new.self c.sweep_parts-filled.ensures.got c.count.ensures)
+
+pub returns-clause-filled : goal.returns-clause-filled
+returns-clause-filled g c = λ k d within.
+    let o = returns-clause-all g c (get_or c.args.demands.now k d) (is_in_at c.args.demands.now k d within) in
+    record { slot = o.0; saw = o.1; filled = inr (returns-clause-whole g c, c.join_all.ensures.ready.hand) }

@@ -29,7 +29,7 @@ overflow_add-units c =
     let f = falling c.args.economy.now c.args.self.now c.requires.table in
     let r = regained_is c.args.economy.now c.args.self.now c.args.before.now.config c.args.after.now.config _ _ _ _ c.requires.table (differ c).step in
     let m = invested_most (c.args.after.now.domestic - c.args.before.now.domestic) c.args.self.now.worth (c.args.after.now.foreign - c.args.before.now.foreign) c.args.self.now.abroad
-        (omega (arith, c.requires.after.most)) (omega (arith, c.requires.after.most_abroad)) f.worth f.abroad in
+    (omega (arith, c.requires.after.most)) (omega (arith, c.requires.after.most_abroad)) f.worth f.abroad in
     omega (arith, r, m)
 
 pub net-requires-clause-worth : goal.net-requires-clause-worth

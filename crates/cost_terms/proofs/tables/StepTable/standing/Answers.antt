@@ -1,6 +1,5 @@
-use Rattle.std.proofs.Common.{◌∙◌, arith}
 use Rattle.cost_terms.specs.Cost.{nothing_built}
-use Rattle.cost_terms.proofs.TableSteps.{AreFromNothing, falling, from_nothing_at, regained_is, worth_is}
+use Rattle.cost_terms.proofs.TableSteps.{AreFromNothing, falling, from_nothing_at, regained_is}
 use Rattle.cost_terms.proofs.tables.StepTable.standing.Goals.{After-project_totals-totals}
 use Rattle.cost_terms.proofs.tables.StepTable.standing.Goals as goal
 

@@ -12,17 +12,17 @@ use Rattle.sim_engine.specs.Dispatch.{available, dispatch}
 use Rattle.sim_engine.specs.Loading.{cells_in, energies, lolp, unserved}
 use Rattle.sim_engine.specs.Prepared.{period_of}
 use Rattle.sim_engine.proofs.PieceSteps.{available_small, dispatch_is, peak_at, same_available, top_hours, top_mw}
-use Rattle.sim_engine.proofs.condition.simulate_period.Goals as goal
+use Rattle.sim_engine.proofs.either.simulate_in_full.Goals as goal
 
-pub run_either-requires-clause-cells : goal.run_either-requires-clause-cells
-run_either-requires-clause-cells c =
+pub run_period-requires-clause-cells : goal.run_period-requires-clause-cells
+run_period-requires-clause-cells c =
     let s = c.args.system.now in
     let v = c.requires.prepared.system in
     let e : cells_in c.step-step.result c.blocks-2.result.now ≡ cells_in s.step c.args.fleet.now.blocks = λ i. cells_in (c.step-step.ensures.value i) (c.blocks-2.ensures i) in
     omega (arith, e, c.requires.prepared.capacity c.args.period c.requires.period, cells_fit (greatest_peak s.loads) (thermal_mw s) s.step v.step.0 v.power.0)
 
-pub run_either-requires-clause-top : goal.run_either-requires-clause-top
-run_either-requires-clause-top c =
+pub run_period-requires-clause-top : goal.run_period-requires-clause-top
+run_period-requires-clause-top c =
     let s = c.args.system.now in
     let v = c.requires.prepared.system in
     let es = c.step-step.ensures.value in
@@ -30,8 +30,8 @@ run_either-requires-clause-top c =
     let t : c.div_ceil-top.result ≡ load_cells s c.args.period = c.div_ceil-top.ensures ∙ (ceiling-div_ceil _ c.step-step.result (omega (arith, es, v.step.0)) ∙ (λ i. (ep i + es i - 1) / es i)) in
     omega (arith, t, c.requires.prepared.capacity c.args.period c.requires.period, cells_fit (greatest_peak s.loads) (thermal_mw s) s.step v.step.0 v.power.0)
 
-pub run_either-requires-clause-available : goal.run_either-requires-clause-available
-run_either-requires-clause-available c =
+pub run_period-requires-clause-available : goal.run_period-requires-clause-available
+run_period-requires-clause-available c =
     let s = c.args.system.now in
     let f = c.args.fleet.now in
     let xs = c.write_available.new.room in
@@ -47,7 +47,7 @@ run_either-requires-clause-available c =
     subst (λ ys. (k d : ℕ) → k < length (take (length c.units.result.now) ys) → get_or (take (length c.units.result.now) ys) k d ≤ M) (sym w)
     (subst (λ (us : List Machine). (k d : ℕ) → k < length (take (length us) xs) → get_or (take (length us) xs) k d ≤ M) (sym c.units.ensures) small)
 
-whole : (c : goal.After-run_either) →
+whole : (c : goal.After-run_period) →
     period_of c.fill_thermal_load.new.curve.cells c.blocks-2.result.now (take (length c.units.result.now) (take c.args.bench.now.available.len (c.write_available.new.room ++ drop (length c.write_available.new.room) c.args.bench.now.available.items))) c.div_ceil-top.result c.step-step.result c.hours.result
     ≡ dispatch c.args.system.now c.args.config.now c.args.period c.args.condition
 whole c =
@@ -68,13 +68,13 @@ whole c =
 
 pub returns-clause-energies : goal.returns-clause-energies
 returns-clause-energies c =
-    ap (λ (bs : List Block). take (length bs) c.run_either.new.bench.energies.items) (sym c.blocks-2.ensures) ∙ (c.run_either.ensures.energies ∙ ap energies (whole c))
+    ap (λ (bs : List Block). take (length bs) c.run_period.new.bench.energies.items) (sym c.blocks-2.ensures) ∙ (c.run_period.ensures.energies ∙ ap energies (whole c))
 
 pub returns-clause-lolp : goal.returns-clause-lolp
-returns-clause-lolp c = c.run_either.ensures.lolp ∙ ap lolp (whole c)
+returns-clause-lolp c = c.run_period.ensures.lolp ∙ ap lolp (whole c)
 
 pub returns-clause-unserved : goal.returns-clause-unserved
-returns-clause-unserved c = c.run_either.ensures.unserved ∙ ap unserved (whole c)
+returns-clause-unserved c = c.run_period.ensures.unserved ∙ ap unserved (whole c)
 
 pub returns-clause-most : goal.returns-clause-most
 returns-clause-most c =
@@ -86,4 +86,4 @@ returns-clause-most c =
     let t : c.div_ceil-top.result ≡ load_cells s m = c.div_ceil-top.ensures ∙ (ceiling-div_ceil _ c.step-step.result (omega (arith, es, c.requires.prepared.system.step.0)) ∙ (λ i. (ep i + es i - 1) / es i)) in
     let mw : c.div_ceil-top.result * c.step-step.result ≤ 400019 =
     subst (λ n. n ≤ 400019) (sym (λ i. t i * es i)) (top_mw (get_or s.loads m no_load).peak s.step v.step.0 v.step.1 (v.loads m no_load c.requires.period).peak.1) in
-    omega (arith, c.run_either.ensures.most, top_hours c.div_ceil-top.result c.step-step.result c.hours.result mw, ap (λ n. 400019 * n) c.hours.ensures.value)
+    omega (arith, c.run_period.ensures.most, top_hours c.div_ceil-top.result c.step-step.result c.hours.result mw, ap (λ n. 400019 * n) c.hours.ensures.value)
