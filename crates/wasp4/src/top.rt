@@ -94,10 +94,10 @@ fn run_script<E: SimEngine, R: Threads + Sync, S: Source, K: Sink>(
     }
 }
 
-/// Plans by a script, or checks the certificates in one: reads its lines from the source and writes the text that they
-/// define to the sink.
+/// Plans by a script, checks the certificates in one, or makes a shape of hourly loads: reads the lines from the source
+/// and writes the text that they define to the sink.
 ///
-/// The words are the one word `plan` or `check`, and the first engine works. Neither the source nor the sink has failed
+/// For a script the words are the one word `plan` or `check`, and the first engine works. Neither the source nor the sink has failed
 /// or ended before. With accepted words, bytes told and no rise of either count of faults the status is `Done`,
 /// `CheckNo` or `Malformed` (or `OutOfMemory`), and the sink has gained exactly the text defined from the bytes that the
 /// source had left: for each PLAN line its report or its refusal, or for each CHECK at its ENDCHECK what is said of its
@@ -108,6 +108,11 @@ fn run_script<E: SimEngine, R: Threads + Sync, S: Source, K: Sink>(
 /// what is told of the script's first lines or of the whole text, after `WriteFault` such a front with more to come, at
 /// `BadWords`, also where there is no engine, the usage line or a front of it. A sure source is never the cause of a
 /// `ReadFault`, and a sink whose sure room holds all that is to be written never that of a `WriteFault`.
+///
+/// For hourly loads the words are `hours N`, with N from 2 to 64. No engine works, and none is asked for. The whole text,
+/// which is the shape of the loads up to END in N points, or the first line with a fault, is put once reading has ended:
+/// after `ReadFault` and `OutOfMemory` nothing of it was written, after `WriteFault` a front with more to come.
+///
 /// `docs/FORMATS.md` has the lines.
 pub fn run<E: SimEngine, R: Threads + Sync, S: Source, K: Sink>(
     rt: &R,

@@ -17,7 +17,7 @@ fn points_behind(word: &str, points: &str) -> Option<u64>
         return None;
     }
     match number(points.as_bytes()) {
-        Some(points) if points >= 2 && points <= 64 => Some(points),
+        Some(points) if (2..=64).contains(&points) => Some(points),
         _ => None,
     }
 }
