@@ -1,6 +1,8 @@
 pub mod Ends
 pub mod Faults
 pub mod Fronts
+pub mod HourSteps
+pub mod HourTexts
 pub mod OneText
 pub mod Progressing
 pub mod Refusing

@@ -87,14 +87,14 @@ no_byte None h = tt
 no_byte (Some t) h = ap lines_of h
 
 -- a byte begins a line
-abbrev Begun : List (List ℕ) → Type 0
+abbrev pub Begun : List (List ℕ) → Type 0
 Begun ls = (x : List ℕ) × (xs : List (List ℕ)) × (ls ≡ x ∷ xs)
 
 onto_begun : (b : ℕ) (ls : List (List ℕ)) → Begun (onto b ls)
 onto_begun b [] = (b ∷ [], [], refl)
 onto_begun b (l ∷ ls) = (b ∷ l, ls, refl)
 
-begun : (b : ℕ) (rest : List ℕ) → Begun (lines_of (b ∷ rest))
+pub begun : (b : ℕ) (rest : List ℕ) → Begun (lines_of (b ∷ rest))
 begun b rest =
     elim (cases_Bool (b == 10)) [
       | inl e ↦ ([], lines_of rest, rw e refl)

@@ -1,3 +1,4 @@
+pub mod Hours
 pub mod Oneness
 pub mod Out
 pub mod Progress

@@ -1,6 +1,7 @@
 -- The text that a script is answered with, and the words of the command line. This program's own.
-use Rattle.std.specs.Prelude.{◌≡◌, ◌==◌, ℕ, ◌⊎◌, List, [], ◌∷◌, ◌++◌, length, Option, None, Some, codes, if◌then◌else◌}
+use Rattle.std.specs.Prelude.{◌≡◌, ◌==◌, ◌&&◌, ℕ, ◌⊎◌, List, [], ◌∷◌, ◌++◌, length, Option, None, Some, codes, nat_le, if◌then◌else◌}
 use Rattle.std.specs.Str.{bytes_eq}
+use Rattle.deck_lines.specs.Words.{number_of}
 use Rattle.deck_lines.specs.declared.line.Line.{Line}
 use Rattle.report_text.specs.Lines.{keys_line}
 use Rattle.report_text.specs.Refusals.{malformed_line}
@@ -67,5 +68,20 @@ asked (word ∷ other ∷ words) = None
 abbrev pub accepted : List (List ℕ) → ℕ → Option Command
 accepted words engines = if engines == 0 then None else asked words
 
+-- the points that `hours N` asks for: a number of one word, from 2 to 64
+abbrev pub points_within : Option ℕ → Option ℕ
+points_within None = None
+points_within (Some n) = if nat_le 2 n && nat_le n 64 then Some n else None
+
+abbrev pub points_behind : List ℕ → List ℕ → Option ℕ
+points_behind word number = if bytes_eq word (codes "hours") then points_within (number_of number) else None
+
+-- what the words ask for of hourly loads, for which no engine works
+abbrev pub hours_points : List (List ℕ) → Option ℕ
+hours_points [] = None
+hours_points (word ∷ []) = None
+hours_points (word ∷ number ∷ []) = points_behind word number
+hours_points (word ∷ number ∷ other ∷ words) = None
+
 abbrev pub usage_text : List ℕ
-usage_text = codes "USAGE plan [--workers N] | check | trial SEED YEARS CANDIDATES\n"
+usage_text = codes "USAGE plan [--workers N] | check | trial SEED YEARS CANDIDATES | hours N\n"

@@ -9,6 +9,7 @@
 ghost use Rattle.std.specs.Prelude.{◌≡◌};
 
 mod clerk;
+mod hours;
 mod laws;
 mod putting;
 mod status;

@@ -165,7 +165,7 @@ fn each_key_is_simulated_once(rt: HostRuntime) -> Result<(), Fail> {
 
 #[test]
 fn other_words_get_the_usage_line(rt: HostRuntime) -> Result<(), Fail> {
-    let usage = b"USAGE plan [--workers N] | check | trial SEED YEARS CANDIDATES\n".as_slice();
+    let usage = b"USAGE plan [--workers N] | check | trial SEED YEARS CANDIDATES | hours N\n".as_slice();
     let mut source = MemSource::new(rt.alloc(), b"", 1, &[])?;
     let mut sink = MemSink::new(rt.alloc(), 300, 8, &[])?;
     let words = CommandWords::new(rt.alloc());
@@ -203,5 +203,33 @@ fn sure_edges_never_fail(rt: HostRuntime) -> Result<(), Fail> {
         Status::ReadFault | Status::WriteFault => unreachable!(),
         status => assert_eq!(rt; status, Status::Done),
     }
+    Ok(())
+}
+
+/// What is written of the loads 1 and 3 MW into a sink with room for it, given the calls of the source that fail.
+fn hours<R: Threads + Sync>(
+    rt: &R,
+    alloc: Global,
+    failing_takes: &[u64],
+) -> Result<(Status, Vec<u8>), Fail> {
+    let mut source = MemSource::new(alloc, b"1\n3\nEND\n", 2, failing_takes)?;
+    let mut sink = MemSink::new(alloc, 100, 8, &[])?;
+    let mut words = CommandWords::new(alloc);
+    words.push("hours")?;
+    words.push("2")?;
+    let mut engines = [PlainEngine::new(alloc)];
+    let status = run(rt, alloc, &words, &mut engines, &mut source, &mut sink);
+    Ok((status, sink.bytes().to_vec(alloc)?))
+}
+
+#[test]
+fn hourly_loads_get_a_shape_once_all_are_read(rt: HostRuntime) -> Result<(), Fail> {
+    let text = b"PEAK 3\nSHAPE 1 0 10000 10000 0\nMWH 4\nERROR 166666667\n".as_slice();
+    let (status, said) = hours(&rt, rt.alloc(), &[])?;
+    assert_eq!(rt; status, Status::Done);
+    assert_eq!(rt; said.as_slice(), text);
+    let (status, said) = hours(&rt, rt.alloc(), &[4])?;
+    assert_eq!(rt; status, Status::ReadFault);
+    assert_eq!(rt; said.len(), 0);
     Ok(())
 }

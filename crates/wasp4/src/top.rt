@@ -1,12 +1,14 @@
 //! The top call.
-ghost use Rattle.std.specs.Prelude.{◌≡◌, ◌↔◌, ◌≤◌, IfOk, IsTrue, None, Ok, OnErr, Some, drop, false, length, map};
+ghost use Rattle.std.specs.Prelude.{◌≡◌, ◌↔◌, ◌≤◌, ℕ, IfOk, IsTrue, None, Ok, OnErr, Some, drop, false, length, map};
 ghost use Rattle.wasp_io.specs.Causes.{HasCause};
 ghost use Rattle.sim_sweep.specs.Works.{first_work};
+ghost use Rattle.wasp4.specs.Hours.{AnswersHours, HasRoomForHours};
 ghost use Rattle.wasp4.specs.Out as spec;
 ghost use Rattle.wasp4.specs.Progress.{Answers, HasRoomFor, SaysUsage, StopsWithin};
 ghost use Rattle.wasp_session.specs.declared.command.Command.{Command as Asked};
 
 use crate::clerk::Clerk;
+use crate::hours::run_hours;
 use crate::putting::put_usage;
 use crate::status::Status;
 use crate::turn::MOST_LINES;
@@ -47,22 +49,8 @@ fn read_script<E: SimEngine, R: Threads + Sync, S: Source, K: Sink>(
     clerk.serve_past(source, sink)
 }
 
-/// Plans by a script, or checks the certificates in one: reads its lines from the source and writes the text that they
-/// define to the sink.
-///
-/// The words are the one word `plan` or `check`, and the first engine works. Neither the source nor the sink has failed
-/// or ended before. With accepted words, bytes told and no rise of either count of faults the status is `Done`,
-/// `CheckNo` or `Malformed` (or `OutOfMemory`), and the sink has gained exactly the text defined from the bytes that the
-/// source had left: for each PLAN line its report or its refusal, or for each CHECK at its ENDCHECK what is said of its
-/// certificate, on the deck as edited so far, and the closing. `CheckNo` comes exactly where the script was read to its
-/// END and a check said NO. The engine has then simulated each key that the lines demand once and nothing else, and
-/// their number is the one that is printed; its counts have risen one run after the other, and stand at the last value
-/// of a `u64`. After `ReadFault` the sink has gained the text of the lines taken whole, after `OutOfMemory` a front of
-/// what is told of the script's first lines or of the whole text, after `WriteFault` such a front with more to come, at
-/// `BadWords`, also where there is no engine, the usage line or a front of it. A sure source is never the cause of a
-/// `ReadFault`, and a sink whose sure room holds all that is to be written never that of a `WriteFault`.
-/// `docs/FORMATS.md` has the lines.
-pub fn run<E: SimEngine, R: Threads + Sync, S: Source, K: Sink>(
+/// Answers the script that the words ask for, or says how they are used.
+fn run_script<E: SimEngine, R: Threads + Sync, S: Source, K: Sink>(
     rt: &R,
     alloc: Global,
     words: &CommandWords,
@@ -103,5 +91,66 @@ pub fn run<E: SimEngine, R: Threads + Sync, S: Source, K: Sink>(
             put_usage(sink);
             Status::BadWords
         }
+    }
+}
+
+/// Plans by a script, checks the certificates in one, or makes a shape of hourly loads: reads the lines from the source
+/// and writes the text that they define to the sink.
+///
+/// For a script the words are the one word `plan` or `check`, and the first engine works. Neither the source nor the sink has failed
+/// or ended before. With accepted words, bytes told and no rise of either count of faults the status is `Done`,
+/// `CheckNo` or `Malformed` (or `OutOfMemory`), and the sink has gained exactly the text defined from the bytes that the
+/// source had left: for each PLAN line its report or its refusal, or for each CHECK at its ENDCHECK what is said of its
+/// certificate, on the deck as edited so far, and the closing. `CheckNo` comes exactly where the script was read to its
+/// END and a check said NO. The engine has then simulated each key that the lines demand once and nothing else, and
+/// their number is the one that is printed; its counts have risen one run after the other, and stand at the last value
+/// of a `u64`. After `ReadFault` the sink has gained the text of the lines taken whole, after `OutOfMemory` a front of
+/// what is told of the script's first lines or of the whole text, after `WriteFault` such a front with more to come, at
+/// `BadWords`, also where there is no engine, the usage line or a front of it. A sure source is never the cause of a
+/// `ReadFault`, and a sink whose sure room holds all that is to be written never that of a `WriteFault`.
+///
+/// For hourly loads the words are `hours N`, with N from 2 to 64. No engine works, and none is asked for. The whole text,
+/// which is the shape of the loads up to END in N points, or the first line with a fault, is put once reading has ended:
+/// after `ReadFault` and `OutOfMemory` nothing of it was written, after `WriteFault` a front with more to come.
+///
+/// `docs/FORMATS.md` has the lines.
+pub fn run<E: SimEngine, R: Threads + Sync, S: Source, K: Sink>(
+    rt: &R,
+    alloc: Global,
+    words: &CommandWords,
+    engines: &mut [E],
+    source: &mut S,
+    sink: &mut K,
+) -> Status
+    requires source { S.ended source.old ≡ false }
+    requires sink { K.failed sink.old ≡ false }
+    ensures words { (result ≡ Status.BadWords) ↔ ((spec.accepted words.now (length engines.old) ≡ None) × (spec.hours_points words.now ≡ None)) }
+
+    // Then nothing is read or simulated, and the usage line is written, or a front of it where the sink failed.
+    ensures unread { result ≡ Status.BadWords → source.new ≡ source.old }
+    ensures idle { result ≡ Status.BadWords → engines.new ≡ engines.old }
+    ensures usage { result ≡ Status.BadWords → SaysUsage (K.written sink.old) (K.written sink.new) (K.faults sink.old) (K.faults sink.new) }
+
+    // The headline: what is written is the text that the lines define, and each key was simulated once.
+    ensures answer { (command : Asked) → spec.accepted words.now (length engines.old) ≡ Some command → Answers command (S.left source.old) (S.left source.new) (K.written sink.old) (K.written sink.new) (first_work (map E.work engines.old)) (first_work (map E.work engines.new)) result }
+
+    // Of hourly loads: what is written is the text of their shape, or of the first line with a fault, and no engine works.
+    ensures hours { (points : ℕ) → spec.hours_points words.now ≡ Some points → AnswersHours points (S.left source.old) (S.left source.new) (K.written sink.old) (K.written sink.new) result }
+    ensures no_engine { (points : ℕ) → spec.hours_points words.now ≡ Some points → engines.new ≡ engines.old }
+    ensures engines { length engines.new ≡ length engines.old }
+    ensures others { drop 1 engines.new ≡ drop 1 engines.old }
+
+    // A count of faults rises by the fault that is answered alone.
+    ensures read { HasCause (S.faults source.old) (S.faults source.new) (result ≡ Status.ReadFault) }
+    ensures write { (result ≡ Status.BadWords → ⊥) → HasCause (K.faults sink.old) (K.faults sink.new) (result ≡ Status.WriteFault) }
+    ensures sure { S.sure source.new ≡ S.sure source.old }
+    ensures sure_room { K.sure_room sink.new ≡ K.sure_room sink.old }
+    ensures never_read_fault { IsTrue (S.sure source.old) → (result ≡ Status.ReadFault) → ⊥ }
+    ensures never_write_fault { (command : Asked) → spec.accepted words.now (length engines.old) ≡ Some command → HasRoomFor command (S.left source.old) (K.written sink.old) (K.sure_room sink.old) → (result ≡ Status.WriteFault) → ⊥ }
+    ensures never_cut { (points : ℕ) → spec.hours_points words.now ≡ Some points → HasRoomForHours points (S.left source.old) (K.written sink.old) (K.sure_room sink.old) → (result ≡ Status.WriteFault) → ⊥ }
+{
+    match words.points() {
+        Some(points) => run_hours(alloc, points, source, sink),
+        None => run_script(rt, alloc, words, engines, source, sink),
     }
 }

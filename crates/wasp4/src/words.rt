@@ -1,11 +1,26 @@
 //! The words of the command line.
-ghost use Rattle.std.specs.Prelude.{◌≡◌, ◌++◌, ◌∷◌, [], OnErr, OnOk};
+ghost use Rattle.std.specs.Prelude.{◌≡◌, ◌≤◌, ◌++◌, ◌∷◌, [], IfSome, OnErr, OnOk};
 ghost use Rattle.wasp4.specs.Out as spec;
 
+use hourly_load::number;
 use std::alloc::Global;
 use std::marker::Model;
 use wasp_fixed::OutOfMemory;
 use wasp_session::Command;
+
+/// The points that a word and a number behind it ask for: `hours`, and from 2 to 64.
+fn points_behind(word: &str, points: &str) -> Option<u64>
+    ensures value { result ≡ spec.points_behind word.now points.now }
+    ensures range { IfSome result (λ n. (2 ≤ n) × (n ≤ 64)) }
+{
+    if word != "hours" {
+        return None;
+    }
+    match number(points.as_bytes()) {
+        Some(points) if (2..=64).contains(&points) => Some(points),
+        _ => None,
+    }
+}
 
 /// The words after the program's name, which contracts see as a list of words, each a list of bytes.
 #[derive(Drop)]
@@ -55,5 +70,16 @@ impl CommandWords {
             "check" => Some(Command::Check),
             _ => None,
         }
+    }
+
+    /// The points that `hours N` asks for, from 2 to 64.
+    pub(crate) fn points(&self) -> Option<u64>
+        ensures value { result ≡ spec.hours_points self.now }
+        ensures range { IfSome result (λ n. (2 ≤ n) × (n ≤ 64)) }
+    {
+        if self.words.len() != 2 {
+            return None;
+        }
+        points_behind(self.words[0].as_str(), self.words[1].as_str())
     }
 }

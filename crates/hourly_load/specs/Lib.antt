@@ -1,0 +1,3 @@
+pub mod Hours
+pub mod Lines
+pub mod Texts
