@@ -18,7 +18,7 @@ mod turn;
 mod words;
 
 pub use laws::{texts_are_one, texts_go_on};
-use sim_engine::PlainEngine;
+use sim_engine::StackEngine;
 pub use status::{Ending, Status};
 use std::alloc::Global;
 use std::process::ExitCode;
@@ -53,7 +53,7 @@ fn main(rt: HostRuntime) -> ExitCode {
     };
     let mut source = StdSource::new(rt.reader());
     let mut sink = StdSink::new(io::writer(&rt));
-    let mut engines = [PlainEngine::new(alloc)];
+    let mut engines = [StackEngine::new(alloc)];
     let status = run(&rt, alloc, &words, &mut engines, &mut source, &mut sink);
     ExitCode::from(status.exit())
 }
