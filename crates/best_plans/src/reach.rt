@@ -165,7 +165,7 @@ fn start(alloc: Global, table: &CaseTable, k: usize) -> Result<Vec<Reached>, All
 pub fn last_ways(alloc: Global, table: &CaseTable, k: usize) -> Result<Vec<Reached>, AllocError>
     requires { 1 ≤ k }
     ensures reached { IfOk result (λ reached. AreReached table.now k (length table.now.layers) reached.items) }
-    ensures valid { IsTable table.now }
+    ensures valid { IfOk result (λ _. IsTable table.now) }
 {
     let mut reached = start(alloc, table, k)?;
     for year in 0..table.layers().len() {
