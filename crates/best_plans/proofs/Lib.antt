@@ -1,3 +1,4 @@
+mod FirstPlans
 mod Putting
 mod Reaching
 mod Selecting

@@ -97,7 +97,7 @@ spot k o old new p i h =
     (λ same. inr (inl (same, at ∙ (ap (λ j. offer_at (insert old p.place o) j) same ∙ get_or-insert_at old p.place o no_offer p.within))))
     (λ other.
     let next : i ≡ i - 1 + 1 = omega (arith, above, other) in
-    inr (inr (omega (arith, above, other), omega (arith, h, n, above, other), at ∙ (ap (λ j. offer_at (insert old p.place o) j) next ∙ get_or-insert_above old p.place o no_offer (i - 1) (omega (arith, above, other)) p.within))))
+    inr (inr (omega (arith, above, other), (omega (arith, h, n, above, other), at ∙ (ap (λ j. offer_at (insert old p.place o) j) next ∙ get_or-insert_above old p.place o no_offer (i - 1) (omega (arith, above, other)) p.within)))))
     (cases_eq i p.place))
     (cases_lt i p.place)
 
@@ -183,12 +183,12 @@ put_old k rs added place rank o old new h w is from = ⊎_elim there full (h.fir
         let is_at : offer_at old i ≡ w = at_place old no_offer w c in
         ⊎_elim
         (λ below.
-        inl (among new no_offer w i (omega (arith, below, n, c.1.0, h.first.few)) (at i (omega (arith, c.1.0, h.first.few)) ∙ (get_or-insert_below old h.put.place o no_offer i below h.put.within ∙ is_at))))
+        inl (among new no_offer w i (omega (arith, below, n, c.1, h.first.few)) (at i (omega (arith, c.1, h.first.few)) ∙ (get_or-insert_below old h.put.place o no_offer i below h.put.within ∙ is_at))))
         (λ above. ⊎_elim
-        (λ inside. inl (among new no_offer w (i + 1) (omega (arith, inside, n, c.1.0)) (at (i + 1) inside ∙ (get_or-insert_above old h.put.place o no_offer i above h.put.within ∙ is_at))))
+        (λ inside. inl (among new no_offer w (i + 1) (omega (arith, inside, n, c.1)) (at (i + 1) inside ∙ (get_or-insert_above old h.put.place o no_offer i above h.put.within ∙ is_at))))
         (λ out. inr (
-          omega (arith, out, n, c.1.0, h.first.few),
-          all_before k rs added place rank o old new h w i (λ j b g. rw (← is_at) (h.first.order j i b c.1.0)) (λ b. rw (← is_at) (inl (after_o k rs added place rank o old new h i above c.1.0))) out (inl above),
+          omega (arith, out, n, c.1, h.first.few),
+          all_before k rs added place rank o old new h w i (λ j b g. rw (← is_at) (h.first.order j i b c.1)) (λ b. rw (← is_at) (inl (after_o k rs added place rank o old new h i above c.1))) out (inl above),
         ))
         (cases_lt (i + 1) k))
         (cases_lt i h.put.place)

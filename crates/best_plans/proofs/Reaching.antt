@@ -30,8 +30,8 @@ use Rattle.best_plans.proofs.Selecting.{From, Step, after}
 
 -- ---- reading
 
-pub read_ways : (rs : List Reached) (place : ℕ) (x : Reached) (ws : List Ranked) → place < length rs → x ≡ get_or rs place x → ws ≡ x.ways → ws ≡ (reached_at rs place).ways
-read_ways rs place x ws b e f = f ∙ ap (λ (r : Reached). r.ways) (e ∙ get_or_default rs place x (record { config = []; ways = [] }) b)
+pub read_ways : (rs : List Reached) (place : ℕ) (x : Reached) (ws : List Ranked) → place < length rs → ws ≡ (get_or rs place x).ways → ws ≡ (reached_at rs place).ways
+read_ways rs place x ws b e = e ∙ ap (λ (r : Reached). r.ways) (get_or_default rs place x (record { config = []; ways = [] }) b)
 
 pub read_total : (rs : List Reached) (place rank : ℕ) (ws : List Ranked) (x : Ranked) → ws ≡ (reached_at rs place).ways → rank < length ws → (get_or ws rank x).total ≡ (ranked_at (reached_at rs place).ways rank).total
 read_total rs place rank ws x e b = ap (λ (r : Ranked). r.total) (get_or_default ws rank x (record { configs = []; total = 0 }) b ∙ ap (λ (xs : List Ranked). ranked_at xs rank) e)

@@ -43,7 +43,7 @@ have_ways t k n rs h (suc m) b = more (have_ways t k n rs h m (omega (arith, b))
         let long = length-append wss (w.ways ∷ []) in
         let here : (i : ℕ) → i ≡ m → ways_at (wss ++ w.ways ∷ []) i ≡ w.ways = λ i e. get_or_push wss w.ways [] i (g.long ∙ sym e) in
         let front : (i : ℕ) → i < m → ways_at (wss ++ w.ways ∷ []) i ≡ ways_at wss i = λ i c. get_or-append wss (w.ways ∷ []) [] i (omega (arith, c, g.long)) in
-        (wss ++ w.ways ∷ [], record {
+        let has : HaveWays t k n rs (suc m) (wss ++ w.ways ∷ []) = record {
           long = omega (arith, long, g.long);
           first = λ i c. ⊎_elim
               (λ same. subst (λ (ws : List (List Scored)). AreFirst (IsBefore t.economy) (IsWayTo t n (reached_at rs i).config) [] k ws) (sym (here i same)) (subst (λ j. AreFirst (IsBefore t.economy) (IsWayTo t n (reached_at rs j).config) [] k w.ways) (sym same) w.first))
@@ -53,7 +53,8 @@ have_ways t k n rs h (suc m) b = more (have_ways t k n rs h m (omega (arith, b))
               (λ same. ap (λ j. (reached_at rs j).ways) same ∙ (w.tells ∙ ap (λ (ws : List (List Scored)). map (told t.economy) ws) (sym (here i same))))
               (λ other. g.tells i (omega (arith, c, other)) ∙ ap (λ (ws : List (List Scored)). map (told t.economy) ws) (sym (front i (omega (arith, c, other)))))
               (cases_eq i m);
-        })
+        } in
+        (wss ++ w.ways ∷ [], has)
 
 -- where a way comes from
 pub record From (t : Table) (n : ℕ) (rs : List Reached) (added : List (Option ℕ)) (f : List Scored → List Scored) (v : List Scored) : Type 0 where
@@ -92,7 +93,7 @@ by_last t n x y (d ∷ w) (e ∷ v) h s p q =
 
 module _ (t : Table) (k n : ℕ) (rs : List Reached) (added : List (Option ℕ)) (f : List Scored → List Scored) (Q : List Scored → Type 0) (s : Step t k n rs added f Q) (wss : List (List (List Scored))) (g : HaveWays t k n rs (length rs) wss) where
   -- the way of an offer
-  way_of : Offer → List Scored
+  abbrev way_of : Offer → List Scored
   way_of o = f (way_at (ways_at wss o.place) o.rank)
 
   ranks : (i : ℕ) → i < length rs → length (reached_at rs i).ways ≡ length (ways_at wss i)
@@ -141,7 +142,7 @@ module _ (t : Table) (k n : ℕ) (rs : List Reached) (added : List (Option ℕ))
   sooner_before o p h q (inr (same, inr rank)) = by_rank o p h q rank.0 rank.1
 
   -- the offer of a rank of a place
-  offer_of : (i a r : ℕ) → Offer
+  abbrev offer_of : (i a r : ℕ) → Offer
   offer_of i a r = record { cost = (ranked_at (reached_at rs i).ways r).total + a; place = i; rank = r }
 
   offer_is : (i a r : ℕ) → i < length rs → get_or added i None ≡ Some a → r < length (ways_at wss i) → IsOffer rs added (offer_of i a r)
@@ -160,7 +161,7 @@ module _ (t : Table) (k n : ℕ) (rs : List Reached) (added : List (Option ℕ))
   climb : (os : List Offer) → AreOffers k rs added (length rs) 0 os → (i a : ℕ) → i < length rs → get_or added i None ≡ Some a → (r : ℕ) → r < length (ways_at wss i) → Deep os (offer_of i a r) r ⊎ Full os (offer_of i a r)
   climb os h i a b there zero c =
       ⊎_elim
-      (λ m. inl (record { at = m.0; within = m.1.0; is = at_place os no_offer (offer_of i a 0) m; deep = omega arith }))
+      (λ m. inl (record { at = m.0; within = m.1; is = at_place os no_offer (offer_of i a 0) m; deep = omega arith }))
       (λ full. inr full)
       (h.all (offer_of i a 0) (offer_is i a 0 b there c, inl b))
   climb os h i a b there (suc r) c = ⊎_elim deeper further (climb os h i a b there r (omega (arith, c)))
@@ -187,12 +188,12 @@ module _ (t : Table) (k n : ℕ) (rs : List Reached) (added : List (Option ℕ))
           let is : offer_at os m.0 ≡ y = at_place os no_offer y m in
           inl (record {
             at = m.0;
-            within = m.1.0;
+            within = m.1;
             is = is;
             deep = ⊎_elim
                 (λ above. ⊎_elim
                 (λ same. absurd (apart (ap (λ (o : Offer). o.rank) (sym d.is ∙ (ap (λ j. offer_at os j) (sym same) ∙ is)))))
-                (λ other. absurd (not_back (rw (← is) (rw (← d.is) (h.order m.0 d.at (omega (arith, above, other)) d.within)))))
+                (λ other. absurd (not_back (subst (λ (o : Offer). IsSooner o x) is (subst (λ (o : Offer). IsSooner (offer_at os m.0) o) d.is (h.order m.0 d.at (omega (arith, above, other)) d.within)))))
                 (cases_eq m.0 d.at))
                 (λ below. omega (arith, below, d.deep))
                 (cases_le m.0 d.at);
@@ -223,10 +224,10 @@ module _ (t : Table) (k n : ℕ) (rs : List Reached) (added : List (Option ℕ))
       (λ z. (omega (arith, z, h.few), λ j c. absurd (omega (arith, c, z, h.few))))
       (λ some. ⊎_elim
       (λ d. (omega (arith, d.within, d.deep, h.few, some), λ j c. ⊎_elim
-      (λ same. rw same (rw d.is (last some)))
+      (λ same. subst (λ (o : Offer). IsBefore t.economy (way_of o) (f w)) (sym (ap (λ i. offer_at os i) same ∙ d.is)) (last some))
       (λ other.
       let m : j < d.at = omega (arith, c, other, d.deep, h.few, d.within) in
-      before_trans t.economy (way_of (offer_at os j)) (way_of (x some)) (f w) (sooner_before (offer_at os j) (x some) (h.each j c).0 (is_x some) (rw (← d.is) (h.order j d.at m d.within))) (last some))
+      before_trans t.economy (way_of (offer_at os j)) (way_of (x some)) (f w) (sooner_before (offer_at os j) (x some) (h.each j c).0 (is_x some) (subst (λ (o : Offer). IsSooner (offer_at os j) o) d.is (h.order j d.at m d.within))) (last some))
       (cases_eq j d.at)))
       (λ past. (past.0, λ j c. before_trans t.economy (way_of (offer_at os j)) (way_of (x some)) (f w) (sooner_before (offer_at os j) (x some) (h.each j c).0 (is_x some) (past.1 j c)) (last some)))
       (climb os h i a b there (k - 1) (omega (arith, some, full))))
@@ -246,6 +247,9 @@ module _ (t : Table) (k n : ℕ) (rs : List Reached) (added : List (Option ℕ))
   way_there : (os : List Offer) (j : ℕ) → j < length os → way_at (map way_of os) j ≡ way_of (offer_at os j)
   way_there os j b = get_or-map way_of os j no_offer [] b
 
+  abbrev Comes : List Offer → List Scored → Type 0
+  Comes os v = Contains (map way_of os) v ⊎ ((length (map way_of os) ≡ k) × ((i : ℕ) → i < length (map way_of os) → IsBefore t.economy (way_at (map way_of os) i) v))
+
   selected : (os : List Offer) → AreOffers k rs added (length rs) 0 os → AreFirst (IsBefore t.economy) Q [] k (map way_of os)
   selected os h =
       let n' = length-map os way_of in
@@ -262,27 +266,25 @@ module _ (t : Table) (k n : ℕ) (rs : List Reached) (added : List (Option ℕ))
         all = λ v q. of v (s.from v q);
       }
     where
-      abbrev Comes : List Scored → Type 0
-      Comes v = Contains (map way_of os) v ⊎ ((length (map way_of os) ≡ k) × ((i : ℕ) → i < length (map way_of os) → IsBefore t.economy (way_at (map way_of os) i) v))
-
-      past : (v : List Scored) → length os ≡ k → ((j : ℕ) → j < length os → IsBefore t.economy (way_of (offer_at os j)) v) → Comes v
-      past v full b = inr (length-map os way_of ∙ full, λ i c.
-      let d : i < length os = omega (arith, c, length-map os way_of) in
-      rw (way_there os i d) (b i d))
-
-      of : (v : List Scored) → From t n rs added f v → Comes v
-      of v u = subst (λ (x : List Scored). Comes x) (sym u.same) (⊎_elim known out ((g.first u.place u.within).all u.way u.to))
+      past : (v : List Scored) → length os ≡ k → ((j : ℕ) → j < length os → IsBefore t.economy (way_of (offer_at os j)) v) → Comes os v
+      past v full b = inr (length-map os way_of ∙ full, λ i c. past_at v b i (omega (arith, c, length-map os way_of)))
         where
-          out : (length (ways_at wss u.place) ≡ k) × ((i : ℕ) → i < length (ways_at wss u.place) → IsBefore t.economy (way_at (ways_at wss u.place) i) u.way) → Comes (f u.way)
+          past_at : (v : List Scored) → ((j : ℕ) → j < length os → IsBefore t.economy (way_of (offer_at os j)) v) → (i : ℕ) → i < length os → IsBefore t.economy (way_at (map way_of os) i) v
+          past_at v b i d = rw (way_there os i d) (b i d)
+
+      of : (v : List Scored) → From t n rs added f v → Comes os v
+      of v u = subst (λ (x : List Scored). Comes os x) (sym u.same) (⊎_elim known out ((g.first u.place u.within).all u.way u.to))
+        where
+          out : (length (ways_at wss u.place) ≡ k) × ((i : ℕ) → i < length (ways_at wss u.place) → IsBefore t.economy (way_at (ways_at wss u.place) i) u.way) → Comes os (f u.way)
           out p = let z = beyond os h u.place u.adds u.within u.there u.way u.to p.0 p.1 in past (f u.way) z.0 z.1
 
-          known : Contains (ways_at wss u.place) u.way → Comes (f u.way)
+          known : Contains (ways_at wss u.place) u.way → Comes os (f u.way)
           known m =
               let is : way_at (ways_at wss u.place) m.0 ≡ u.way = at_place (ways_at wss u.place) [] u.way m in
               let x = offer_of u.place u.adds m.0 in
-              let is_x = offer_is u.place u.adds m.0 u.within u.there m.1.0 in
-              subst (λ (y : List Scored). Comes (f y)) is (⊎_elim
-              (λ at. inl (among (map way_of os) [] (way_of x) at.0 (omega (arith, at.1.0, length-map os way_of)) (way_there os at.0 at.1.0 ∙ ap way_of (at_place os no_offer x at))))
+              let is_x = offer_is u.place u.adds m.0 u.within u.there m.1 in
+              subst (λ (y : List Scored). Comes os (f y)) is (⊎_elim
+              (λ at. inl (among (map way_of os) [] (way_of x) at.0 (omega (arith, at.1, length-map os way_of)) (way_there os at.0 at.1 ∙ ap way_of (at_place os no_offer x at))))
               (λ full. past (way_of x) full.0 (λ j c. sooner_before (offer_at os j) x (h.each j c).0 is_x (full.1 j c)))
               (h.all x (is_x, inl u.within)))
 
@@ -308,4 +310,4 @@ pub after : (t : Table) (k n : ℕ) (rs : List Reached) (added : List (Option �
     ((w : List Scored) → configs (reverse (f w)) ≡ configs (reverse w) ++ tail) → (ws : List (List Scored)) × (AreFirst (IsBefore t.economy) Q [] k ws × (map (onward rs tail) os ≡ map (told t.economy) ws))
 after t k n rs added f Q os tail s h ends =
     let c = have_ways t k n rs s.reached.each (length rs) (omega arith) in
-    (map (way_of t k n rs added f Q s c.0 c.1) os, selected t k n rs added f Q s c.0 c.1 os h, tells t k n rs added f Q s c.0 c.1 os tail h ends)
+    (map (way_of t k n rs added f Q s c.0 c.1) os, (selected t k n rs added f Q s c.0 c.1 os h, tells t k n rs added f Q s c.0 c.1 os tail h ends))
