@@ -12,7 +12,7 @@ pub overflow_add-cost : goal.overflow_add-cost
 overflow_add-cost c =
     let ws : c.as_slice-ways.result.now ≡ (reached_at c.args.reached.now c.args.place).ways =
     read_ways c.args.reached.now c.args.place c.index-reached-place.result c.as_slice-ways.result.now c.requires.place c.as_slice-ways.ensures in
-    small_sum c.args.reached.now c.args.place c.loop-rank.rank c.in-Some.adds c.as_slice-ways.result.now c.index-ways-rank.result ws c.loop-rank-test.true c.requires.low (c.requires.small c.args.place c.in-Some.adds c.in-Some.is)
+    record { fits = small_sum c.args.reached.now c.args.place c.loop-rank.rank c.in-Some.adds c.as_slice-ways.result.now c.index-ways-rank.result ws c.loop-rank-test.true c.requires.low (c.requires.small c.args.place c.in-Some.adds c.in-Some.is) }
 
 pub loop-rank-preserved : goal.loop-rank-preserved
 loop-rank-preserved c =
