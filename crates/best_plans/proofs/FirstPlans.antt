@@ -1,29 +1,28 @@
 -- The k best plans, from what is reached after the last year.
-use Rattle.std.proofs.Common.{◌≡◌, ℕ, zero, suc, ◌+◌, ◌*◌, ◌<◌, ◌≤◌, List, [], ◌∷◌, ◌++◌, length, map, reverse, replicate, get_or, Contains, Option, Some, None, sym, ap, ◌∙◌, arith, refl, subst, ⊎_elim, inl, inr, ◌⊎◌, ◌≢◌, true≢false}
-use Rattle.std.proofs.lemmas.Bool.{cases_eq, cases_lt}
+use Rattle.std.proofs.Common.{◌≡◌, ℕ, ◌+◌, ◌<◌, ◌≤◌, List, [], ◌∷◌, length, map, reverse, replicate, get_or, Contains, Option, Some, None, sym, ap, ◌∙◌, arith, refl, subst, ⊎_elim, inl, inr, ◌⊎◌, ◌≢◌, true≢false}
+use Rattle.std.proofs.lemmas.Bool.{cases_eq}
 use Rattle.std.proofs.lemmas.Cmp.{lists_total, nat_list_cmp_total}
 use Rattle.std.proofs.lemmas.List.{append-nil, get_or-map, get_or-replicate, length-map, length-reverse, reverse-reverse}
 use Rattle.std.specs.Cmp.Lexicographic.{slice_cmp}
 use Rattle.std.specs.Ordering.{is_gt, is_lt, nat_cmp, ordering_reverse}
 use Rattle.std.specs.declared.cmp.Ordering.{Ordering}
 use Rattle.std.specs.declared.cmp.Ordering.TheVariants.{Less, Greater}
-use Rattle.cost_terms.specs.Table.{Table, plan_cost}
+use Rattle.cost_terms.specs.Table.{Table}
 use Rattle.cost_terms.specs.declared.entries.Scored.{Scored}
 use Rattle.cost_terms.specs.declared.prices.CostData.{CostData}
-use Rattle.plan_program.specs.Chosen.{HasPlan, IsChosen, IsNoWorse, IsPlanOf, backwards}
-use Rattle.plan_program.specs.Plans.{IsAdmissible, configs}
-use Rattle.plan_program.specs.Ways.{IsWay, last_config, way_cost}
-use Rattle.plan_program.proofs.Orders.{backwards_is, config_equal, lists_cmp}
+use Rattle.plan_program.specs.Chosen.{IsChosen, IsNoWorse, backwards}
+use Rattle.plan_program.specs.Plans.{configs}
+use Rattle.plan_program.specs.Ways.{IsWay, way_cost}
+use Rattle.plan_program.proofs.Orders.{backwards_is}
 use Rattle.plan_program.proofs.Ways.{cost_same, plan_way, way_plan}
-use Rattle.wasp_fixed.proofs.Lists.{list_ext}
-use Rattle.best_plans.specs.Best.{AreBest, AreFirst, FirstIsChosen, IsBetter, IsRanking, IsWhole, shown}
-use Rattle.best_plans.specs.Offers.{AreOffers, reached_at}
-use Rattle.best_plans.specs.Reach.{AreReached, IsBefore, IsWayTo, onward, told}
+use Rattle.best_plans.specs.Best.{AreBest, AreFirst, FirstIsChosen, IsBetter, IsRanking, shown}
+use Rattle.best_plans.specs.Offers.{AreOffers}
+use Rattle.best_plans.specs.Reach.{AreReached, IsBefore, onward, told}
 use Rattle.best_plans.specs.declared.offers.Offer.{Offer}
 use Rattle.best_plans.specs.declared.ranked.Ranked.{Ranked}
 use Rattle.best_plans.specs.declared.ranked.Reached.{Reached}
 use Rattle.best_plans.proofs.Putting.{among, at_place, some_one}
-use Rattle.best_plans.proofs.Selecting.{From, Step, after, way_at}
+use Rattle.best_plans.proofs.Selecting.{Step, after, way_at}
 
 -- a way of all years
 record IsFullWay (t : Table) (w : List Scored) : Type 0 where

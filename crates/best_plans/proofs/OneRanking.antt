@@ -1,18 +1,16 @@
 -- Two rankings of one table are equal.
-use Rattle.std.proofs.Common.{◌≡◌, ℕ, zero, suc, ◌+◌, ◌<◌, ◌≤◌, List, [], ◌∷◌, length, map, get_or, Contains, sym, ap, ◌∙◌, arith, refl, subst, ⊎_elim, inl, inr, ◌⊎◌, true≢false}
+use Rattle.std.proofs.Common.{◌≡◌, ℕ, zero, suc, ◌<◌, List, [], length, map, get_or, Contains, sym, ap, ◌∙◌, arith, subst, ⊎_elim, inl, inr, ◌⊎◌, true≢false}
 use Rattle.std.proofs.lemmas.Bool.{cases_eq, cases_lt}
 use Rattle.std.proofs.lemmas.Cmp.{lists_total, nat_list_cmp_total}
 use Rattle.std.specs.Cmp.Lexicographic.{slice_cmp}
 use Rattle.std.specs.Ordering.{is_lt, nat_cmp, ordering_reverse}
 use Rattle.std.specs.declared.cmp.Ordering.{Ordering}
-use Rattle.std.specs.declared.cmp.Ordering.TheVariants.{Less, Equal, Greater}
-use Rattle.cost_terms.specs.Table.{Table}
+use Rattle.std.specs.declared.cmp.Ordering.TheVariants.{Less}
 use Rattle.cost_terms.specs.declared.entries.Scored.{Scored}
 use Rattle.cost_terms.specs.declared.prices.CostData.{CostData}
 use Rattle.plan_program.specs.Chosen.{backwards}
 use Rattle.wasp_fixed.proofs.Lists.{list_ext}
-use Rattle.best_plans.specs.Best.{AreBest, AreFirst, IsBetter, IsWhole, RankingsAreOne, shown}
-use Rattle.best_plans.specs.declared.ranked.Ranked.{Ranked}
+use Rattle.best_plans.specs.Best.{AreFirst, IsBetter, IsWhole, RankingsAreOne, shown}
 use Rattle.best_plans.proofs.Putting.{at_place}
 
 -- an order in which no two come before one another

@@ -1,13 +1,13 @@
 -- From what is reached before a year to what is reached after it.
-use Rattle.std.proofs.Common.{◌≡◌, ℕ, zero, suc, ◌+◌, ◌-◌, ◌*◌, ◌^◌, ◌<◌, ◌≤◌, List, [], ◌∷◌, ◌++◌, length, map, reverse, get_or, Contains, Option, Some, None, sym, ap, ◌∙◌, arith, refl, subst, ⊎_elim, inl, inr, ◌⊎◌, true≢false}
+use Rattle.std.proofs.Common.{◌≡◌, ℕ, zero, suc, ◌+◌, ◌*◌, ◌^◌, ◌<◌, ◌≤◌, List, [], ◌∷◌, ◌++◌, length, map, reverse, get_or, Contains, Option, Some, None, sym, ap, ◌∙◌, arith, refl, subst, ⊎_elim, inl, inr, true≢false}
 use Rattle.std.proofs.Math.ListN.{get_or-append}
 use Rattle.std.proofs.lemmas.Bool.{cases_eq, cases_lt}
 use Rattle.std.proofs.lemmas.List.{get_or_default, get_or-map, get_or_past, get_or_push, length-append, length-map}
 use Rattle.std.proofs.lemmas.Option.{none-some}
 use Rattle.std.specs.Cmp.Lexicographic.{slice_cmp}
-use Rattle.std.specs.Option.{IfSome, unwrap_or}
+use Rattle.std.specs.Option.{IfSome}
 use Rattle.std.specs.Ordering.{is_lt, nat_cmp}
-use Rattle.std.specs.declared.cmp.Ordering.TheVariants.{Less, Equal}
+use Rattle.std.specs.declared.cmp.Ordering.TheVariants.{Less}
 use Rattle.plant_data.specs.Configs.{IsAtMost}
 use Rattle.cost_terms.specs.Cost.{nothing_built, step_cost}
 use Rattle.cost_terms.specs.CostData.{Fits}
@@ -17,11 +17,10 @@ use Rattle.cost_terms.specs.declared.prices.CostData.{CostData}
 use Rattle.plan_program.specs.Plans.{configs, entry_at, layer_at, no_entry}
 use Rattle.plan_program.specs.Ways.{IsWay, last_config, way_cost}
 use Rattle.plan_program.proofs.Forward.{entry_is, place_of}
-use Rattle.plan_program.proofs.Orders.{config_equal, configs_push, lists_cmp, same_first}
+use Rattle.plan_program.proofs.Orders.{config_equal, configs_push, same_first}
 use Rattle.plan_program.proofs.Ways.{reverse_more}
-use Rattle.best_plans.specs.Best.{AreFirst}
 use Rattle.best_plans.specs.Offers.{AreLow, AreOffers, no_offer, offer_at, ranked_at, reached_at}
-use Rattle.best_plans.specs.Reach.{AreAdditions, AreEntries, AreReached, AreWays, IsAddition, IsBefore, IsMet, IsWayTo, onward, told}
+use Rattle.best_plans.specs.Reach.{AreAdditions, AreEntries, AreReached, AreWays, IsAddition, IsMet, IsWayTo, onward}
 use Rattle.best_plans.specs.declared.offers.Offer.{Offer}
 use Rattle.best_plans.specs.declared.ranked.Ranked.{Ranked}
 use Rattle.best_plans.specs.declared.ranked.Reached.{Reached}

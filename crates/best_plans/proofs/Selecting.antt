@@ -11,16 +11,16 @@ use Rattle.cost_terms.specs.Table.{Table}
 use Rattle.cost_terms.specs.declared.entries.Scored.{Scored}
 use Rattle.cost_terms.specs.declared.prices.CostData.{CostData}
 use Rattle.plan_program.specs.Plans.{configs}
-use Rattle.plan_program.specs.Ways.{last_config, way_cost}
+use Rattle.plan_program.specs.Ways.{way_cost}
 use Rattle.plan_program.proofs.Orders.{lists_cmp}
 use Rattle.wasp_fixed.proofs.Lists.{list_ext}
 use Rattle.best_plans.specs.Best.{AreFirst}
-use Rattle.best_plans.specs.Offers.{AreOffers, ComesFrom, IsOffer, IsSooner, no_offer, offer_at, ranked_at, reached_at}
+use Rattle.best_plans.specs.Offers.{AreOffers, IsOffer, IsSooner, no_offer, offer_at, ranked_at, reached_at}
 use Rattle.best_plans.specs.Reach.{AreReached, AreWays, IsBefore, IsWayTo, onward, told}
 use Rattle.best_plans.specs.declared.offers.Offer.{Offer}
 use Rattle.best_plans.specs.declared.ranked.Ranked.{Ranked}
 use Rattle.best_plans.specs.declared.ranked.Reached.{Reached}
-use Rattle.best_plans.proofs.Putting.{among, at_place, some_one, sooner_cost}
+use Rattle.best_plans.proofs.Putting.{among, at_place}
 
 abbrev pub way_at : List (List Scored) → ℕ → List Scored
 way_at ws i = get_or ws i []
@@ -223,12 +223,15 @@ module _ (t : Table) (k n : ℕ) (rs : List Reached) (added : List (Option ℕ))
   beyond os h i a b there w to full before = ⊎_elim
       (λ z. (omega (arith, z, h.few), λ j c. absurd (omega (arith, c, z, h.few))))
       (λ some. ⊎_elim
-      (λ d. (omega (arith, d.within, d.deep, h.few, some), λ j c. ⊎_elim
-      (λ same. subst (λ (o : Offer). IsBefore t.economy (way_of o) (f w)) (sym (ap (λ i. offer_at os i) same ∙ d.is)) (last some))
-      (λ other.
-      let m : j < d.at = omega (arith, c, other, d.deep, h.few, d.within) in
-      before_trans t.economy (way_of (offer_at os j)) (way_of (x some)) (f w) (sooner_before (offer_at os j) (x some) (h.each j c).0 (is_x some) (subst (λ (o : Offer). IsSooner (offer_at os j) o) d.is (h.order j d.at m d.within))) (last some))
-      (cases_eq j d.at)))
+      (λ d. (
+        omega (arith, d.within, d.deep, h.few, some),
+        λ j c. ⊎_elim
+            (λ same. subst (λ (o : Offer). IsBefore t.economy (way_of o) (f w)) (sym (ap (λ i. offer_at os i) same ∙ d.is)) (last some))
+            (λ other.
+            let m : j < d.at = omega (arith, c, other, d.deep, h.few, d.within) in
+            before_trans t.economy (way_of (offer_at os j)) (way_of (x some)) (f w) (sooner_before (offer_at os j) (x some) (h.each j c).0 (is_x some) (subst (λ (o : Offer). IsSooner (offer_at os j) o) d.is (h.order j d.at m d.within))) (last some))
+            (cases_eq j d.at),
+      ))
       (λ past. (past.0, λ j c. before_trans t.economy (way_of (offer_at os j)) (way_of (x some)) (f w) (sooner_before (offer_at os j) (x some) (h.each j c).0 (is_x some) (past.1 j c)) (last some)))
       (climb os h i a b there (k - 1) (omega (arith, some, full))))
       (cases_eq k 0)

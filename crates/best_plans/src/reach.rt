@@ -15,13 +15,7 @@ use std::alloc::{AllocError, Global};
 
 /// What the step from a configuration to an entry of the year adds, given what it costs to run the entry, or
 /// none where a count falls.
-fn addition(
-    economy: &Economy,
-    year: u64,
-    before: &Config,
-    entry: &Scored,
-    ran: u64,
-) -> Option<u64>
+fn addition(economy: &Economy, year: u64, before: &Config, entry: &Scored, ran: u64) -> Option<u64>
     requires first { 1 ≤ year }
     requires last { year ≤ economy.now.years }
     requires before { Fits economy.now before.now }

@@ -1,6 +1,5 @@
-use Rattle.std.proofs.Common.{◌≡◌, ◌<◌, ◌+◌, List, ℕ, length, arith}
-use Rattle.best_plans.specs.Offers.{ranked_at, reached_at}
-use Rattle.best_plans.specs.declared.ranked.Ranked.{Ranked}
+use Rattle.std.proofs.Common.{◌≡◌, ◌+◌, length, arith}
+use Rattle.best_plans.specs.Offers.{reached_at}
 use Rattle.best_plans.proofs.Putting.{passed, put_rank, skipped}
 use Rattle.best_plans.proofs.Reaching.{read_total, read_ways, small_sum}
 use Rattle.best_plans.proofs.offers.offer_ways.Goals as goal

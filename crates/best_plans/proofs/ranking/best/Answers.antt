@@ -1,8 +1,7 @@
-use Rattle.std.proofs.Common.{rules, ◌≡◌, [], ◌∙◌, List, Option, ℕ, Some, length, map, replicate, ap, subst}
+use Rattle.std.proofs.Common.{rules, ◌≡◌, [], ◌∙◌, List, Option, ℕ, Some, length, map, replicate, subst}
 use Rattle.best_plans.specs.Best.{IsRanking}
 use Rattle.best_plans.specs.Offers.{AreOffers}
-use Rattle.best_plans.specs.Reach.{AreReached, onward}
-use Rattle.best_plans.specs.declared.offers.Offer.{Offer}
+use Rattle.best_plans.specs.Reach.{onward}
 use Rattle.best_plans.specs.declared.ranked.Reached.{Reached}
 use Rattle.best_plans.proofs.FirstPlans.{first_is, ranking_is}
 use Rattle.best_plans.proofs.ranking.best.Goals.{After-drop-reached-2}

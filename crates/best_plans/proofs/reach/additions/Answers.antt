@@ -1,4 +1,4 @@
-use Rattle.std.proofs.Common.{◌≡◌, ◌*◌, ◌^◌, ◌∙◌, [], ◌++◌, ◌∷◌, ap, length, arith}
+use Rattle.std.proofs.Common.{◌*◌, ◌^◌, ◌∙◌, [], ◌∷◌, ap, length, arith}
 use Rattle.std.proofs.lemmas.List.{length-append}
 use Rattle.std.proofs.lemmas.List.{get_or_default}
 use Rattle.best_plans.proofs.Reaching.{added_each, added_small}

@@ -1,4 +1,4 @@
-use Rattle.std.proofs.Common.{◌≡◌, ◌+◌, ◌∷◌, [], ◌∙◌, List, Option, ℕ, length, map, ap, subst, arith}
+use Rattle.std.proofs.Common.{◌≡◌, ◌+◌, ◌∷◌, [], ◌∙◌, List, Option, ℕ, length, map, ap, subst}
 use Rattle.cost_terms.specs.declared.prices.CostData.{CostData}
 use Rattle.best_plans.specs.Offers.{AreOffers}
 use Rattle.best_plans.specs.Reach.{AreAdditions, onward}

@@ -1,4 +1,4 @@
-use Rattle.std.proofs.Common.{◌≡◌, ap, length, arith}
+use Rattle.std.proofs.Common.{ap, length, arith}
 use Rattle.best_plans.proofs.Reaching.{next_reached}
 use Rattle.best_plans.proofs.reach.last_ways.Goals as goal
 

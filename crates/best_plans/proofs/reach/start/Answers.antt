@@ -2,8 +2,6 @@ use Rattle.std.proofs.Common.{◌≡◌, ◌∷◌, [], ◌∙◌, ◌++◌, Lis
 use Rattle.cost_terms.specs.Cost.{nothing_built}
 use Rattle.cost_terms.specs.CostData.{Fits}
 use Rattle.cost_terms.specs.declared.prices.CostData.{CostData}
-use Rattle.best_plans.specs.declared.ranked.Ranked.{Ranked}
-use Rattle.best_plans.specs.declared.ranked.Reached.{Reached}
 use Rattle.best_plans.proofs.Reaching.{start_reached}
 use Rattle.best_plans.proofs.reach.start.Goals as goal
 
