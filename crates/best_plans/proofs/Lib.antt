@@ -1,0 +1,5 @@
+mod FirstPlans
+mod OneRanking
+mod Putting
+mod Reaching
+mod Selecting
