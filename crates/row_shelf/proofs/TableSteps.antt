@@ -37,7 +37,6 @@ pub record TableOf (kept : List KeptRow) (j : Job) (table : Table) : Type 0 wher
   pub layers : table.layers ≡ accepted_layers (kept_row kept) j
   pub simulated : (k : ℕ) (s : System) → k < length j.demands → AreRowsOf s kept (demands_at j k) → layer_at table k ≡ accepted_layer (simulated_row s) (limit_at j k) (demands_at j k)
 
-
 case_at : (book : List System) (ids : List ℕ) (ys : List (List (List ℕ))) (k id : ℕ) (configs : List (List ℕ)) → slice_get ids k ≡ Some id → slice_get ys k ≡ Some configs
     → slice_index_or (case_demands book ids ys) k [] ≡ year_demands book (id, configs)
 case_at book [] ys k id configs a b = cc

@@ -103,7 +103,9 @@ fn swept_rows<E: SimEngine, R: Threads + Sync>(
 fn are_kept(kept: &Kept, demands: &[Demand]) -> bool
     ensures { IsTrue result ↔ All (λ d. IsSome (words_in kept.now d.code)) demands.now }
 {
-    demands.iter().all(|demand| kept.find(demand.code).is_some())
+    demands
+        .iter()
+        .all(|demand| kept.find(demand.code).is_some())
 }
 
 /// Simulates each demanded key whose row is not kept, once, by the engines together, and keeps its row under its code.

@@ -34,7 +34,8 @@ pub use jobs::settle;
 pub use keeping::keep_rows;
 pub use kept::Kept;
 pub use laws::{
-    counts_rise_together, due_rows_stand, due_words_are_of_keys, new_codes_come_once, new_runs_come_once,
+    counts_rise_together, due_rows_stand, due_words_are_of_keys, new_codes_come_once,
+    new_runs_come_once,
 };
 pub use settling::{case_table, solve_table};
 pub use sweeping::{split_for, sweep};
