@@ -129,10 +129,7 @@ fn turn<S: Source>(
     match next_line(reader, source, line)? {
         Found::Line => take_line(before, line, loads),
         Found::Last => match take_line(before, line, loads)? {
-            LoadTurn::Goes => Ok(LoadTurn::Malformed(
-                before + 2,
-                at_first_column(LineKind::NoEnd),
-            )),
+            LoadTurn::Goes => Ok(LoadTurn::Malformed(before + 2, at_first_column(LineKind::NoEnd))),
             LoadTurn::Ended => Ok(LoadTurn::Ended),
             LoadTurn::Malformed(number, fault) => Ok(LoadTurn::Malformed(number, fault)),
             LoadTurn::Failed => unreachable!(),
@@ -144,10 +141,7 @@ fn turn<S: Source>(
                 column: 4097,
             },
         )),
-        Found::End => Ok(LoadTurn::Malformed(
-            before + 1,
-            at_first_column(LineKind::NoEnd),
-        )),
+        Found::End => Ok(LoadTurn::Malformed(before + 1, at_first_column(LineKind::NoEnd))),
         Found::Failed => Ok(LoadTurn::Failed),
     }
 }

@@ -13,7 +13,7 @@ pub returns-in_ok-push-in-Load-clause-turn : goal.returns-in_ok-push-in-Load-cla
 returns-in_ok-push-in-Load-clause-turn c =
     let is : stated_behind c.args.loads.now.items c.args.bytes.now ≡ Ok (lines.Load c.in-Load.load) = rw (c.in-Load.is, c.deref.ensures.value) at c.in-Ok.ensures.exact in
     λ more. line_here c.args.before c.args.loads.now.items c.args.bytes.now (Ok (lines.Load c.in-Load.load)) c.requires.last is more
-        ∙ ap (λ (ls : List ℕ). loads_behind (c.args.before + 1) ls more) (sym c.in_ok-push-in-Load.ensures.items)
+    ∙ ap (λ (ls : List ℕ). loads_behind (c.args.before + 1) ls more) (sym c.in_ok-push-in-Load.ensures.items)
 
 pub returns-in-End-clause-turn : goal.returns-in-End-clause-turn
 returns-in-End-clause-turn c =
