@@ -103,8 +103,8 @@ fn run_script<E: SimEngine, R: Threads + Sync, S: Source, K: Sink>(
 /// source had left: for each PLAN line its report or its refusal, or for each CHECK at its ENDCHECK what is said of its
 /// certificate, on the deck as edited so far, and the closing. `CheckNo` comes exactly where the script was read to its
 /// END and a check said NO. The engine has then simulated each key that the lines demand once and nothing else, and
-/// their number is the one that is printed; its counts have risen one run after the other, and stand at the last value
-/// of a `u64`. After `ReadFault` the sink has gained the text of the lines taken whole, after `OutOfMemory` a front of
+/// their number is the one that is printed; its counts rise run by run, and one that is at the last value of a `u64`
+/// stays there. After `ReadFault` the sink has gained the text of the lines taken whole, after `OutOfMemory` a front of
 /// what is told of the script's first lines or of the whole text, after `WriteFault` such a front with more to come, at
 /// `BadWords`, also where there is no engine, the usage line or a front of it. A sure source is never the cause of a
 /// `ReadFault`, and a sink whose sure room holds all that is to be written never that of a `WriteFault`.
