@@ -1,0 +1,1 @@
+-- Statements of trial decks are in their form and their ranges.
