@@ -1,3 +1,4 @@
 pub mod Behind
 pub mod Draws
 pub mod Forms
+pub mod Growing

@@ -1,3 +1,4 @@
 pub mod Stream
 pub mod TrialDeck
 pub mod Order
+pub mod Ranges

@@ -16,4 +16,4 @@ mod adding;
 mod making;
 mod stream;
 
-//pub use making::make_deck;
+pub use making::make_deck;

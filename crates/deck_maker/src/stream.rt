@@ -1,5 +1,6 @@
 //! The random numbers of trial decks.
 ghost use Rattle.std.specs.Prelude.{◌≡◌, ◌+◌, ◌<◌, ◌≤◌};
+ghost use Rattle.deck_maker.specs.Ranges.{IsDrawn};
 ghost use Rattle.deck_maker.specs.Stream as spec;
 ghost use Rattle.deck_maker.specs.TrialDeck.{machine};
 
@@ -15,7 +16,7 @@ const MODULUS: u64 = 1 << 32;
 const LOW: u64 = 1 << 16;
 
 /// A seed's random numbers, one after the other. Contracts see the seed and how many were drawn.
-#[derive(Debug)]
+#[derive(Debug, Drop)]
 pub(crate) struct Stream {
     seed: u64,
     drawn: u64,
@@ -77,9 +78,10 @@ impl Stream {
 
     /// The next five numbers, as those of a unit of at least so many MW.
     pub(crate) fn draw_machine(&mut self, smallest: u64) -> Machine
-        requires smallest { smallest ≤ 100 }
+        requires smallest { (30 ≤ smallest) × (smallest ≤ 40) }
         requires few { self.old.drawn < 900 }
         ensures value { result ≡ machine self.old.seed self.old.drawn smallest }
+        ensures ranges { IsDrawn result }
         ensures next { self.new ≡ record self.old { drawn = self.old.drawn + 5 } }
     {
         let full = smallest + self.draw(40);
