@@ -2,3 +2,4 @@ pub mod Behind
 pub mod Draws
 pub mod Forms
 pub mod Growing
+mod WorkedRows
