@@ -3,3 +3,4 @@ pub mod Draws
 pub mod Forms
 pub mod Growing
 mod WorkedRows
+pub mod Reading
