@@ -4,3 +4,4 @@ pub mod Forms
 pub mod Growing
 mod WorkedRows
 pub mod Reading
+pub mod NoFault
