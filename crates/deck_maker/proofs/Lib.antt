@@ -5,3 +5,5 @@ pub mod Growing
 mod WorkedRows
 pub mod Reading
 pub mod NoFault
+pub mod YearRows
+pub mod Trials

@@ -1,6 +1,6 @@
 -- A trial deck meets no row of the fault table.
 use Rattle.std.proofs.Common.{◌≡◌, ℕ, zero, suc, ◌+◌, ◌-◌, ◌*◌, ◌/◌, ◌%◌, ◌<◌, ◌≤◌, Bool, true, false, not, cond, ◌&&◌, ◌||◌, ◌==◌, List, [], ◌∷◌, ◌++◌, map, get_or, Option, Some, None, refl, sym, ap, subst, ◌∙◌, arith, ⊎_elim, inl, inr}
-use Rattle.std.specs.Prelude.{nat_le, nat_lt, sum, if◌then◌else◌}
+use Rattle.std.specs.Prelude.{nat_le, nat_lt, is_some, sum, if◌then◌else◌}
 use Rattle.std.proofs.Math.Dec.{leb-suc-zero}
 use Rattle.std.proofs.lemmas.Bool.{and_parts, cases_eq, eq-eqb, ne_eqb, le-leb, lt-leb, leb-true}
 use Rattle.deck_lines.specs.Body.{BodyParts}
@@ -8,7 +8,7 @@ use Rattle.deck_lines.specs.declared.head.Head.TheVariants as heads
 use Rattle.deck_check.specs.DeckFault as table
 use Rattle.deck_check.specs.DeckFault.{is_bad_point}
 use Rattle.deck_check.specs.FaultTable.{Row, IsUnmet, is_in, is_met, upto, only}
-use Rattle.deck_check.specs.Readings.{Says, first, is_absent, is_there, greatest, plant_head, numbers, number, fuel, full, least}
+use Rattle.deck_check.specs.Readings.{Says, first, is_absent, is_there, greatest, plant_head, numbers, numbers_in, number, fuel, full, least, come, gone, projects}
 use Rattle.deck_maker.specs.Stream.{draw}
 use Rattle.deck_maker.specs.TrialDeck.{machine, plant, plant_place, thermal, thermal_place, load}
 use Rattle.deck_maker.proofs.Draws.{draw_below, is_drawn}
@@ -20,10 +20,10 @@ guarded true true false h f = refl
 guarded true false r h f = refl
 guarded false q r h f = refl
 
-unmet : (row : Row) → ((a b c : ℕ) → is_in row.a a ≡ true → is_in (row.b a) b ≡ true → is_in (row.c a b) c ≡ true → row.holds a b c ≡ false) → IsUnmet row
+pub unmet : (row : Row) → ((a b c : ℕ) → is_in row.a a ≡ true → is_in (row.b a) b ≡ true → is_in (row.c a b) c ≡ true → row.holds a b c ≡ false) → IsUnmet row
 unmet row f = λ a b c. guarded (is_in row.a a) (is_in (row.b a) b) (is_in (row.c a b) c) (row.holds a b c) (f a b c)
 
-and_false : (b : Bool) → (b && false) ≡ false
+pub and_false : (b : Bool) → (b && false) ≡ false
 and_false true = refl
 and_false false = refl
 
@@ -77,11 +77,11 @@ shape_form s y c =
 -- ---- units
 
 -- what is so of no body, of every plant's and of every candidate's is so of what stands at a head of a unit
-if_known : (P : Option BodyParts → Type 0) (b : Bool) (body : BodyParts) → P None → P (Some body) → P (cond b (Some body) None)
+pub if_known : (P : Option BodyParts → Type 0) (b : Bool) (body : BodyParts) → P None → P (Some body) → P (cond b (Some body) None)
 if_known P true body n k = k
 if_known P false body n k = n
 
-at_unit : (s y c : ℕ) (P : Option BodyParts → Type 0) → P None → ((p : ℕ) → P (Some (plant s p).body)) → ((k : ℕ) → P (Some (thermal s k).body)) → (a : ℕ) → P (says s y c (plant_head a))
+pub at_unit : (s y c : ℕ) (P : Option BodyParts → Type 0) → P None → ((p : ℕ) → P (Some (plant s p).body)) → ((k : ℕ) → P (Some (thermal s k).body)) → (a : ℕ) → P (says s y c (plant_head a))
 at_unit s y c P n p k a = elim (nat_le a 40) as (λ b. P (says s y c (if b then heads.Plant a else heads.Thermal (a - 40)))) [
   | true ↦ if_known P (nat_le 1 a && nat_le a 6) (plant s a).body n (p a)
   | false ↦ if_known P (nat_le 1 (a - 40) && nat_le (a - 40) c) (thermal s (a - 40)).body n (k (a - 40))
@@ -93,6 +93,110 @@ one_or_two s y c (suc zero) low high = refl
 one_or_two s y c (suc (suc zero)) low high = refl
 one_or_two s y c (suc (suc (suc f))) low high = absurd (omega (arith, high))
 
-abbrev HasFuel : (s y c f : ℕ) → Option BodyParts → Type 0
-HasFuel s y c f None = Unit {0}
-HasFuel s y c f (Some body) = f ≡ get_or body.numbers 5 0 → is_absent (says s y c) (heads.Fuel f) ≡ false
+-- where a body names this fuel, b is false
+abbrev FuelIs : ℕ → Bool → Option BodyParts → Type 0
+FuelIs f b None = Unit {0}
+FuelIs f b (Some body) = f ≡ get_or body.numbers 5 0 → b ≡ false
+
+fuel_there : (s y c a f : ℕ) → FuelIs f (is_absent (says s y c) (heads.Fuel f)) (says s y c (plant_head a)) → f ≡ fuel (says s y c) a → (is_there (says s y c) (plant_head a) && is_absent (says s y c) (heads.Fuel f)) ≡ false
+fuel_there s y c a f h e = known_fuel (says s y c (plant_head a)) (is_absent (says s y c) (heads.Fuel f)) h e
+  where
+    known_fuel : (o : Option BodyParts) (b : Bool) → FuelIs f b o → f ≡ get_or (numbers_in o) 5 0 → (is_some o && b) ≡ false
+    known_fuel None b h e = refl
+    known_fuel (Some body) b h e = h e
+
+pub no_fuel : (s y c : ℕ) → IsUnmet (table.no_fuel (says s y c))
+no_fuel s y c =
+    unmet (table.no_fuel (says s y c))
+    (λ a f k p q r.
+    let e : f ≡ fuel (says s y c) a = omega (arith, span_low (fuel (says s y c) a) (fuel (says s y c) a) f q, span_high (fuel (says s y c) a) (fuel (says s y c) a) f q) in
+    fuel_there s y c a f
+    (at_unit s y c (FuelIs f (is_absent (says s y c) (heads.Fuel f))) tt
+    (λ n e. one_or_two s y c f (omega (arith, e)) (omega (arith, e, draw_below s (plant_place n + 2) 2 (omega arith))))
+    (λ n e. one_or_two s y c f (omega (arith, e)) (omega (arith, e, draw_below s (thermal_place n + 2) 2 (omega arith))))
+    a) e)
+
+abbrev HasBlocks : Option BodyParts → Type 0
+HasBlocks o = nat_lt (get_or (numbers_in o) 2 0) (get_or (numbers_in o) 1 0) ≡ false
+
+half : (n : ℕ) → nat_lt n (n / 2) ≡ false
+half n = lt-leb (suc n) (n / 2) (omega arith)
+
+pub blocks : (s y c : ℕ) → IsUnmet (table.blocks (says s y c))
+blocks s y c =
+    unmet (table.blocks (says s y c))
+    (λ a b k p q r. at_unit s y c HasBlocks refl (λ n. half (machine s (plant_place n) 30).full) (λ n. half (machine s (thermal_place n) 40).full) a)
+
+pub no_plant : (s y c : ℕ) → IsUnmet (table.no_plant (says s y c))
+no_plant s y c = unmet (table.no_plant (says s y c)) (λ a b k p q r. refl)
+
+pub none_gone : (xs : List ℕ) → sum (map (λ (u : ℕ). 0) xs) ≡ 0
+none_gone [] = refl
+none_gone (x ∷ xs) = none_gone xs
+
+pub negative : (s y c : ℕ) → IsUnmet (table.negative (says s y c))
+negative s y c =
+    unmet (table.negative (says s y c))
+    (λ a b k p q r. lt-leb (suc (come (says s y c) a b)) (gone (says s y c) a b) (let none : gone (says s y c) a b ≡ 0 = none_gone (first b) in omega (arith, none)))
+
+pub bad_weights : (s y c : ℕ) → IsUnmet (table.bad_weights (says s y c))
+bad_weights s y c =
+    unmet (table.bad_weights (says s y c))
+    (λ a b k p q r. let e : a ≡ 10_000 = omega (arith, span_low 10_000 10_000 a p, span_high 10_000 10_000 a p) in rw (eq-eqb a 10_000 e) refl)
+
+-- ---- the river
+
+pub no_group : (s y c : ℕ) → IsUnmet (table.no_group (says s y c))
+unfolding first
+no_group s y c =
+    unmet (table.no_group (says s y c))
+    (λ a b k p q r. ⊎_elim (λ e. rw (eq-eqb 1 a e) (and_false _)) (λ ne. rw (ne_eqb 1 a ne) refl) (cases_eq 1 a))
+
+-- there is one project, of group 1
+one_project : (s y c g j : ℕ) → is_in (upto (projects (says s y c) g)) j ≡ true → (1 ≡ g) × (1 ≡ j)
+one_project s y c g j h =
+    ⊎_elim
+    (λ e. (e, let k : is_in (upto 1) j ≡ true = subst (λ (x : ℕ). is_in (upto (projects (says s y c) x)) j ≡ true) (sym e) h in omega (arith, span_low 1 1 j k, span_high 1 1 j k)))
+    (λ ne. let k : is_in (upto 0) j ≡ true = rw (ne_eqb 1 g ne) at h in absurd (omega (arith, span_low 1 0 j k, span_high 1 0 j k)))
+    (cases_eq 1 g)
+
+pub no_project : (s y c : ℕ) → IsUnmet (table.no_project (says s y c))
+no_project s y c =
+    unmet (table.no_project (says s y c))
+    (λ a b k p q r. let o = one_project s y c a b q in rw (eq-eqb 1 a o.0, eq-eqb 1 b o.1) refl)
+
+-- what is so of periods 1 and 2 of project 1 is so wherever water is looked for
+at_water : (s y c : ℕ) (P : ℕ → ℕ → ℕ → Bool) → P 1 1 1 ≡ false → P 1 1 2 ≡ false → (g j m : ℕ) → is_in (upto (projects (says s y c) g)) j ≡ true → is_in (upto 2) m ≡ true → P g j m ≡ false
+at_water s y c P one two g j m h k =
+    let o = one_project s y c g j h in
+    subst (λ (x : ℕ). P x j m ≡ false) o.0 (subst (λ (x : ℕ). P 1 x m ≡ false) o.1 (at_period m k))
+  where
+    at_period : (m : ℕ) → is_in (upto 2) m ≡ true → P 1 1 m ≡ false
+    at_period zero k = absurd (omega (arith, span_low 1 2 zero k))
+    at_period (suc zero) k = one
+    at_period (suc (suc zero)) k = two
+    at_period (suc (suc (suc m))) k = absurd (omega (arith, span_high 1 2 (suc (suc (suc m))) k))
+
+pub no_water : (s y c : ℕ) → IsUnmet (table.no_water (says s y c))
+no_water s y c = unmet (table.no_water (says s y c)) (λ a b k p q r. at_water s y c (table.no_water (says s y c)).holds refl refl a b k q r)
+
+pub water_count : (s y c : ℕ) → IsUnmet (table.water_count (says s y c))
+water_count s y c = unmet (table.water_count (says s y c)) (λ a b k p q r. at_water s y c (table.water_count (says s y c)).holds refl refl a b k q r)
+
+pub step_water : (s y c : ℕ) → IsUnmet (table.step_water (says s y c))
+step_water s y c = unmet (table.step_water (says s y c)) (λ a b k p q r. at_water s y c (table.step_water (says s y c)).holds refl refl a b k q r)
+
+-- ---- later statements, and the step of the grid
+
+pub old_form : (s y c : ℕ) → IsUnmet (table.old_form (says s y c))
+old_form s y c =
+    unmet (table.old_form (says s y c))
+    (λ a b k p q r. rw (and_false (a == 1), and_false (a == 2), and_false (a == 3)) refl)
+
+whole_step : (n : ℕ) → not (n % 1 == 0) ≡ false
+whole_step n = let e : n % 1 ≡ 0 = omega arith in rw (eq-eqb (n % 1) 0 e) refl
+
+pub step_unit : (s y c : ℕ) → IsUnmet (table.step_unit (says s y c))
+step_unit s y c =
+    unmet (table.step_unit (says s y c))
+    (λ a b k p q r. rw (whole_step (least (says s y c) a), whole_step (full (says s y c) a)) refl)

@@ -7,13 +7,16 @@
 //!
 //! Stands on `deck_lines` for decks and, for what is proved of trial decks, on the fault table of
 //! `deck_check`. The contract that the layers above use: `make_deck` answers exactly the deck of its three
-//! numbers, or that memory is wanting.
+//! numbers, or that memory is wanting; such a deck meets no row of the fault table, and each year's tunnel has
+//! at most 64 configurations.
 //!
 //! Limits: any seed, 1 to 30 years, 1 to 6 thermal candidates.
 #![tactic(auto)]
 
 mod adding;
+mod laws;
 mod making;
 mod stream;
 
+pub use laws::{trials_are_narrow, trials_have_no_fault};
 pub use making::make_deck;
