@@ -1,6 +1,5 @@
 -- A statement whose head comes behind all others is put behind them.
-use Rattle.std.proofs.Common.{◌≡◌, ℕ, ◌+◌, ◌≤◌, ◌<◌, Bool, true, false, List, [], ◌∷◌, ◌++◌, refl, sym, ap, ◌∙◌, arith}
-use Rattle.std.specs.Prelude.{max}
+use Rattle.std.proofs.Common.{◌≡◌, ◌+◌, ◌≤◌, ◌<◌, Bool, true, false, List, [], ◌∷◌, ◌++◌, refl, ap, arith}
 use Rattle.deck_lines.specs.declared.head.Head.{Head}
 use Rattle.deck_lines.specs.declared.statement.Statement.{Statement}
 use Rattle.deck_lines.specs.Statements.{same_head}

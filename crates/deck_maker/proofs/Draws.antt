@@ -1,5 +1,5 @@
 -- The range of a draw, and its step.
-use Rattle.std.proofs.Common.{◌≡◌, ℕ, zero, suc, ◌+◌, ◌*◌, ◌/◌, ◌%◌, ◌^◌, ◌<◌, ◌≤◌, refl, sym, ap, ◌∙◌, arith, add-one}
+use Rattle.std.proofs.Common.{◌≡◌, ℕ, zero, suc, ◌+◌, ◌*◌, ◌%◌, ◌^◌, ◌<◌, ◌≤◌, ap, arith, add-one}
 use Rattle.deck_maker.specs.Stream.{draw, state_behind}
 use Rattle.deck_maker.specs.TrialDeck.{machine}
 use Rattle.deck_maker.specs.Ranges.{IsDrawn}

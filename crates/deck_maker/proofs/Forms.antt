@@ -1,5 +1,5 @@
 -- Statements of trial decks are in their form and their ranges.
-use Rattle.std.proofs.Common.{◌≡◌, ℕ, zero, suc, ◌+◌, ◌-◌, ◌/◌, ◌<◌, ◌≤◌, true, List, [], ◌∷◌, ◌++◌, refl, arith}
+use Rattle.std.proofs.Common.{◌≡◌, ℕ, zero, suc, ◌+◌, ◌-◌, ◌/◌, ◌≤◌, true, [], ◌∷◌, ◌++◌, refl, arith}
 use Rattle.std.proofs.lemmas.Bool.{le-leb}
 use Rattle.deck_lines.specs.declared.head.Head.TheVariants as heads
 use Rattle.deck_lines.specs.declared.statement.Statement.{Statement}
@@ -53,13 +53,20 @@ plant_form p m low high d =
     (rw (le-leb 1 p low, le-leb p 40 (omega (arith, high))) refl)
     (digit_name_p p low high)
     (rw (
-        le-leb 1 (m.full / 2) (omega (arith, d.small)), le-leb (m.full / 2) 20_000 (omega (arith, d.large)),
-        le-leb 1 m.full (omega (arith, d.small)), le-leb m.full 20_000 (omega (arith, d.large)),
-        le-leb 0 m.heat (omega arith), le-leb m.heat 50_000 (omega (arith, d.most_heat)),
-        le-leb 0 (m.heat - 200) (omega arith), le-leb (m.heat - 200) 50_000 (omega (arith, d.most_heat)),
-        le-leb 1 m.fuel d.least_fuel, le-leb m.fuel 20 (omega (arith, d.most_fuel)),
-        le-leb 0 m.outage (omega arith), le-leb m.outage 10_000 (omega (arith, d.outage)),
-        le-leb 0 m.repair (omega arith), le-leb m.repair 8760 (omega (arith, d.repair))
+      le-leb 1 (m.full / 2) (omega (arith, d.small)),
+      le-leb (m.full / 2) 20_000 (omega (arith, d.large)),
+      le-leb 1 m.full (omega (arith, d.small)),
+      le-leb m.full 20_000 (omega (arith, d.large)),
+      le-leb 0 m.heat (omega arith),
+      le-leb m.heat 50_000 (omega (arith, d.most_heat)),
+      le-leb 0 (m.heat - 200) (omega arith),
+      le-leb (m.heat - 200) 50_000 (omega (arith, d.most_heat)),
+      le-leb 1 m.fuel d.least_fuel,
+      le-leb m.fuel 20 (omega (arith, d.most_fuel)),
+      le-leb 0 m.outage (omega arith),
+      le-leb m.outage 10_000 (omega (arith, d.outage)),
+      le-leb 0 m.repair (omega arith),
+      le-leb m.repair 8760 (omega (arith, d.repair)),
     ) refl)
 
 pub thermal_form : (k : ℕ) (m : Machine) (price : ℕ) → 1 ≤ k → k ≤ 6 → IsDrawn m → price ≤ 50_000
@@ -69,14 +76,22 @@ thermal_form k m price low high d most =
     (rw (le-leb 1 k low, le-leb k 12 (omega (arith, high))) refl)
     (digit_name_t k low high)
     (rw (
-        le-leb 1 (m.full / 2) (omega (arith, d.small)), le-leb (m.full / 2) 20_000 (omega (arith, d.large)),
-        le-leb 1 m.full (omega (arith, d.small)), le-leb m.full 20_000 (omega (arith, d.large)),
-        le-leb 0 m.heat (omega arith), le-leb m.heat 50_000 (omega (arith, d.most_heat)),
-        le-leb 0 (m.heat - 200) (omega arith), le-leb (m.heat - 200) 50_000 (omega (arith, d.most_heat)),
-        le-leb 1 m.fuel d.least_fuel, le-leb m.fuel 20 (omega (arith, d.most_fuel)),
-        le-leb 0 m.outage (omega arith), le-leb m.outage 10_000 (omega (arith, d.outage)),
-        le-leb 0 m.repair (omega arith), le-leb m.repair 8760 (omega (arith, d.repair)),
-        le-leb 0 price (omega arith), le-leb price 50_000 most
+      le-leb 1 (m.full / 2) (omega (arith, d.small)),
+      le-leb (m.full / 2) 20_000 (omega (arith, d.large)),
+      le-leb 1 m.full (omega (arith, d.small)),
+      le-leb m.full 20_000 (omega (arith, d.large)),
+      le-leb 0 m.heat (omega arith),
+      le-leb m.heat 50_000 (omega (arith, d.most_heat)),
+      le-leb 0 (m.heat - 200) (omega arith),
+      le-leb (m.heat - 200) 50_000 (omega (arith, d.most_heat)),
+      le-leb 1 m.fuel d.least_fuel,
+      le-leb m.fuel 20 (omega (arith, d.most_fuel)),
+      le-leb 0 m.outage (omega arith),
+      le-leb m.outage 10_000 (omega (arith, d.outage)),
+      le-leb 0 m.repair (omega arith),
+      le-leb m.repair 8760 (omega (arith, d.repair)),
+      le-leb 0 price (omega arith),
+      le-leb price 50_000 most,
     ) refl)
 
 pub water_form : (m wet dry : ℕ) → 1 ≤ m → m ≤ 12 → wet ≤ 200_000_000 → dry ≤ 200_000_000 → IsStatement (unnamed (heads.Water 1 1 m) (10 ∷ 20 ∷ wet ∷ 8 ∷ 20 ∷ dry ∷ []))

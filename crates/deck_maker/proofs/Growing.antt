@@ -1,10 +1,10 @@
 -- Decks one statement longer, and the whole.
-use Rattle.std.proofs.Common.{◌≡◌, ℕ, ◌+◌, List, [], ◌∷◌, ◌++◌, map, refl, sym, ap, subst, ◌∙◌, append_assoc}
+use Rattle.std.proofs.Common.{◌≡◌, ℕ, ◌+◌, List, [], ◌∷◌, ◌++◌, map, refl, sym, subst, append_assoc}
 use Rattle.std.proofs.lemmas.List.{append-nil}
 use Rattle.deck_lines.specs.declared.statement.Statement.{Statement}
 use Rattle.deck_check.specs.Readings.{first}
 use Rattle.deck_check.proofs.Firsts.{first_none, map_more, flat_more}
-use Rattle.deck_maker.specs.TrialDeck.{frame, fuels, plant, thermal, water, river, load, limits, pairs, tunnel, trial}
+use Rattle.deck_maker.specs.TrialDeck.{frame, fuels, plant, thermal, river, load, limits, pairs, tunnel, trial}
 
 pub none_yet : (f : ℕ → Statement) (deck : List Statement) → deck ≡ deck ++ map f (first 0)
 none_yet f deck = rw first_none (sym (append-nil deck))

@@ -1,17 +1,15 @@
 -- A trial deck meets no row of the fault table.
-use Rattle.std.proofs.Common.{◌≡◌, ℕ, zero, suc, ◌+◌, ◌-◌, ◌*◌, ◌/◌, ◌%◌, ◌<◌, ◌≤◌, Bool, true, false, not, cond, ◌&&◌, ◌||◌, ◌==◌, List, [], ◌∷◌, ◌++◌, map, get_or, Option, Some, None, refl, sym, ap, subst, ◌∙◌, arith, ⊎_elim, inl, inr}
+use Rattle.std.proofs.Common.{◌≡◌, ℕ, zero, suc, ◌+◌, ◌-◌, ◌/◌, ◌%◌, ◌≤◌, Bool, true, false, not, cond, ◌&&◌, ◌==◌, List, [], ◌∷◌, map, get_or, Option, Some, None, refl, sym, subst, arith, ⊎_elim}
 use Rattle.std.specs.Prelude.{nat_le, nat_lt, is_some, sum, if◌then◌else◌}
-use Rattle.std.proofs.Math.Dec.{leb-suc-zero}
-use Rattle.std.proofs.lemmas.Bool.{and_parts, cases_eq, eq-eqb, ne_eqb, le-leb, lt-leb, leb-true}
+use Rattle.std.proofs.lemmas.Bool.{and_parts, cases_eq, eq-eqb, ne_eqb, lt-leb, leb-true}
 use Rattle.deck_lines.specs.Body.{BodyParts}
 use Rattle.deck_lines.specs.declared.head.Head.TheVariants as heads
 use Rattle.deck_check.specs.DeckFault as table
 use Rattle.deck_check.specs.DeckFault.{is_bad_point}
-use Rattle.deck_check.specs.FaultTable.{Row, IsUnmet, is_in, is_met, upto, only}
-use Rattle.deck_check.specs.Readings.{Says, first, is_absent, is_there, greatest, plant_head, numbers, numbers_in, number, fuel, full, least, come, gone, projects}
-use Rattle.deck_maker.specs.Stream.{draw}
-use Rattle.deck_maker.specs.TrialDeck.{machine, plant, plant_place, thermal, thermal_place, load}
-use Rattle.deck_maker.proofs.Draws.{draw_below, is_drawn}
+use Rattle.deck_check.specs.FaultTable.{Row, IsUnmet, is_in, upto}
+use Rattle.deck_check.specs.Readings.{first, is_absent, is_there, plant_head, numbers_in, fuel, full, least, come, gone, projects}
+use Rattle.deck_maker.specs.TrialDeck.{machine, plant, plant_place, thermal, thermal_place}
+use Rattle.deck_maker.proofs.Draws.{draw_below}
 use Rattle.deck_maker.proofs.Reading.{says}
 
 guarded : (p q r h : Bool) → (p ≡ true → q ≡ true → r ≡ true → h ≡ false) → (p && (q && (r && h))) ≡ false

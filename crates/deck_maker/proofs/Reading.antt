@@ -1,8 +1,8 @@
 -- What a trial deck says of each head.
-use Rattle.std.proofs.Common.{◌≡◌, ℕ, zero, suc, ◌+◌, ◌<◌, ◌≤◌, Bool, true, false, cond, ◌&&◌, ◌||◌, ◌==◌, List, [], ◌∷◌, ◌++◌, map, Option, Some, None, refl, sym, ap, subst, ◌∙◌, arith, ⊎_elim, inl, inr}
-use Rattle.std.specs.Prelude.{nat_le, if◌then◌else◌}
+use Rattle.std.proofs.Common.{◌≡◌, ℕ, zero, suc, ◌+◌, ◌<◌, ◌≤◌, Bool, true, false, cond, ◌&&◌, ◌==◌, List, [], ◌∷◌, ◌++◌, map, Option, Some, None, refl, sym, ap, subst, ◌∙◌, arith, ⊎_elim, inl, inr}
+use Rattle.std.specs.Prelude.{nat_le}
 use Rattle.std.specs.List.{range_with_len}
-use Rattle.std.proofs.lemmas.Bool.{cases_eq, eq-eqb, ne_eqb, le-leb, lt-leb}
+use Rattle.std.proofs.lemmas.Bool.{cases_eq, eq-eqb, ne_eqb}
 use Rattle.std.proofs.lemmas.Bool.Decides.{leb_tells}
 use Rattle.deck_lines.specs.Body.{BodyParts}
 use Rattle.deck_lines.specs.declared.head.Head.{Head}
@@ -11,7 +11,7 @@ use Rattle.deck_lines.specs.declared.statement.Statement.{Statement}
 use Rattle.deck_lines.specs.Statements.{same_head}
 use Rattle.deck_lines.specs.Deck.{body_of}
 use Rattle.deck_check.specs.Readings.{Says, first}
-use Rattle.deck_maker.specs.TrialDeck.{frame, fuels, plant, thermal, river, water, load, limits, tunnel, trial}
+use Rattle.deck_maker.specs.TrialDeck.{frame, fuels, plant, thermal, river, load, limits, tunnel, trial}
 
 abbrev pub or_else : Option BodyParts → Option BodyParts → Option BodyParts
 or_else None other = other

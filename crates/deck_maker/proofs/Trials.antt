@@ -1,8 +1,7 @@
 -- What is so of every trial deck.
-use Rattle.std.proofs.Common.{◌≡◌, ℕ, zero, suc, ◌≤◌, List, [], ◌∷◌, All, refl, sym, subst, arith}
+use Rattle.std.proofs.Common.{◌≡◌, ℕ, zero, suc, ◌≤◌, List, [], ◌∷◌, All, sym, subst, arith}
 use Rattle.std.proofs.lemmas.List.Elements.{All-cons}
 use Rattle.std.proofs.lemmas.Bool.{le-leb}
-use Rattle.deck_lines.specs.declared.head.Head.{Head}
 use Rattle.deck_lines.specs.declared.head.Head.TheVariants as heads
 use Rattle.deck_lines.specs.Deck.{body_of}
 use Rattle.deck_check.specs.DeckFault.{HasNoFault, table}
@@ -30,13 +29,79 @@ all_unmet (row ∷ rows) h = All-cons IsUnmet row rows h.0 (all_unmet rows h.1)
 
 none_met : (s y c : ℕ) → 1 ≤ y → y ≤ 30 → 1 ≤ c → c ≤ 6 → All IsUnmet (table (says s y c))
 none_met s y c low high few many =
-    all_unmet (table (says s y c))
-    (general.no_years s y c, (general.no_periods s y c, (general.no_rate s y c, (general.no_ens s y c, (yearly.no_candidate s y c few many,
-    (general.no_load s y c, (general.load_count s y c, (general.no_shape s y c, (general.shape_form s y c, (general.no_fuel s y c,
-    (general.blocks s y c, (general.no_plant s y c, (general.negative s y c, (general.bad_weights s y c, (general.no_group s y c,
-    (general.no_project s y c, (general.no_water s y c, (general.water_count s y c, (yearly.many_units s y c, (yearly.power s y c high,
-    (yearly.many_codes s y c few many, (yearly.no_case s y c low, (yearly.tunnel_count s y c few many, (yearly.tunnel_high s y c high few many,
-    (general.old_form s y c, (general.step_unit s y c, (general.step_water s y c, tt)))))))))))))))))))))))))))
+    all_unmet (table (says s y c)) (
+      general.no_years s y c,
+      (
+        general.no_periods s y c,
+        (
+          general.no_rate s y c,
+          (
+            general.no_ens s y c,
+            (
+              yearly.no_candidate s y c few many,
+              (
+                general.no_load s y c,
+                (
+                  general.load_count s y c,
+                  (
+                    general.no_shape s y c,
+                    (
+                      general.shape_form s y c,
+                      (
+                        general.no_fuel s y c,
+                        (
+                          general.blocks s y c,
+                          (
+                            general.no_plant s y c,
+                            (
+                              general.negative s y c,
+                              (
+                                general.bad_weights s y c,
+                                (
+                                  general.no_group s y c,
+                                  (
+                                    general.no_project s y c,
+                                    (
+                                      general.no_water s y c,
+                                      (
+                                        general.water_count s y c,
+                                        (
+                                          yearly.many_units s y c,
+                                          (
+                                            yearly.power s y c high,
+                                            (
+                                              yearly.many_codes s y c few many,
+                                              (
+                                                yearly.no_case s y c low,
+                                                (
+                                                  yearly.tunnel_count s y c few many,
+                                                  (
+                                                    yearly.tunnel_high s y c high few many,
+                                                    (general.old_form s y c, (general.step_unit s y c, (general.step_water s y c, tt))),
+                                                  ),
+                                                ),
+                                              ),
+                                            ),
+                                          ),
+                                        ),
+                                      ),
+                                    ),
+                                  ),
+                                ),
+                              ),
+                            ),
+                          ),
+                        ),
+                      ),
+                    ),
+                  ),
+                ),
+              ),
+            ),
+          ),
+        ),
+      ),
+    )
 
 pub no_fault : TrialsHaveNoFault
 no_fault seed years candidates low high few many =

@@ -1,5 +1,5 @@
 -- Worked rows of the definitions.
-use Rattle.std.proofs.Common.{◌≡◌, [], ◌∷◌, take, drop, refl}
+use Rattle.std.proofs.Common.{◌≡◌, [], ◌∷◌, drop, refl}
 use Rattle.std.specs.Prelude.{codes}
 use Rattle.deck_lines.specs.declared.head.Head.TheVariants as heads
 use Rattle.deck_check.specs.Readings.{first}

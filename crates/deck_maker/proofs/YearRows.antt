@@ -1,26 +1,22 @@
 -- A trial deck's cases, candidates and capacities meet no row of the fault table.
-use Rattle.std.proofs.Common.{◌≡◌, ℕ, zero, suc, ◌+◌, ◌-◌, ◌*◌, ◌/◌, ◌%◌, ◌^◌, ◌<◌, ◌≤◌, Bool, true, false, not, cond, ◌&&◌, ◌||◌, ◌==◌, List, [], ◌∷◌, ◌++◌, map, get_or, Option, Some, None, refl, sym, ap, subst, ◌∙◌, arith, ⊎_elim, inl, inr}
-use Rattle.std.specs.Prelude.{nat_le, nat_lt, is_some, sum, if◌then◌else◌}
-use Rattle.std.proofs.Math.Dec.{leb-suc-zero}
-use Rattle.std.proofs.lemmas.Bool.{and_parts, cases_eq, eq-eqb, ne_eqb, le-leb, lt-leb, leb-true}
+use Rattle.std.proofs.Common.{◌≡◌, ℕ, zero, suc, ◌+◌, ◌-◌, ◌*◌, ◌/◌, ◌^◌, ◌≤◌, true, false, ◌&&◌, ◌==◌, map, get_or, Option, refl, subst, arith}
+use Rattle.std.specs.Prelude.{nat_le, nat_lt, sum}
+use Rattle.std.proofs.lemmas.Bool.{le-leb, lt-leb}
 use Rattle.deck_lines.specs.Body.{BodyParts}
 use Rattle.deck_lines.specs.declared.head.Head.TheVariants as heads
 use Rattle.deck_check.specs.DeckFault as table
 use Rattle.deck_check.specs.DeckFault.{is_bad_point}
-use Rattle.deck_check.specs.FaultTable.{Row, IsUnmet, is_in, is_met, upto, only}
-use Rattle.deck_check.specs.Readings.{Says, first, is_absent, is_there, greatest, plant_head, numbers, numbers_in, number, fuel, full, least, come, gone, projects, width, cases, units_in, units, capacity, peak}
-use Rattle.deck_maker.specs.Stream.{draw}
-use Rattle.deck_maker.specs.TrialDeck.{machine, plant, plant_place, thermal, thermal_place, load}
+use Rattle.deck_check.specs.FaultTable.{IsUnmet, is_in, upto}
+use Rattle.deck_check.specs.Readings.{first, greatest, numbers_in, number, full, width, cases, units_in, units, capacity, peak}
+use Rattle.deck_maker.specs.TrialDeck.{plant, plant_place, thermal, thermal_place}
 use Rattle.deck_maker.proofs.Draws.{draw_below, is_drawn}
 use Rattle.deck_maker.proofs.Reading.{says}
-
 use Rattle.std.specs.List.{range_with_len}
 use Rattle.std.proofs.lemmas.List.Sums.{sum_by-cons}
 use Rattle.std.proofs.Math.Nat.{mul-le-mul_left, mul-le-mul_right}
 use Rattle.year_system.specs.System.{size}
 use Rattle.deck_maker.specs.TrialDeck.{load_place}
 use Rattle.deck_maker.proofs.NoFault.{unmet, and_false, span_low, span_high, at_unit, if_known, none_gone}
-
 
 -- ---- candidates and cases
 
@@ -184,8 +180,9 @@ units_in_within s y c t p =
 units_within : (s y c t : ℕ) → units (says s y c) t ≤ 88
 units_within s y c t =
     omega (
-        arith, first_within (λ (p : ℕ). units_in (says s y c) p t) 1 40 (units_in_within s y c t),
-        first_within (λ (k : ℕ). number (says s y c) (heads.Thermal k) 0) 4 12 (to_build s y c)
+      arith,
+      first_within (λ (p : ℕ). units_in (says s y c) p t) 1 40 (units_in_within s y c t),
+      first_within (λ (k : ℕ). number (says s y c) (heads.Thermal k) 0) 4 12 (to_build s y c),
     )
 
 pub many_units : (s y c : ℕ) → IsUnmet (table.many_units (says s y c))
@@ -199,8 +196,9 @@ product u v m n h k = omega (arith, mul-le-mul_left u k, mul-le-mul_right n h)
 capacity_within : (s y c t : ℕ) → capacity (says s y c) t ≤ 6952
 capacity_within s y c t =
     omega (
-        arith, first_within (λ (p : ℕ). units_in (says s y c) p t * full (says s y c) p) 79 40 (λ p. product (units_in (says s y c) p t) (full (says s y c) p) 1 79 (units_in_within s y c t p) (full_within s y c p)),
-        first_within (λ (k : ℕ). number (says s y c) (heads.Thermal k) 0 * full (says s y c) (40 + k)) 316 12 (λ k. product (number (says s y c) (heads.Thermal k) 0) (full (says s y c) (40 + k)) 4 79 (to_build s y c k) (full_within s y c (40 + k)))
+      arith,
+      first_within (λ (p : ℕ). units_in (says s y c) p t * full (says s y c) p) 79 40 (λ p. product (units_in (says s y c) p t) (full (says s y c) p) 1 79 (units_in_within s y c t p) (full_within s y c p)),
+      first_within (λ (k : ℕ). number (says s y c) (heads.Thermal k) 0 * full (says s y c) (40 + k)) 316 12 (λ k. product (number (says s y c) (heads.Thermal k) 0) (full (says s y c) (40 + k)) 4 79 (to_build s y c k) (full_within s y c (40 + k))),
     )
 
 peak_within : (s y c t : ℕ) → y ≤ 30 → is_in (upto y) t ≡ true → peak (says s y c) t ≤ 654

@@ -1,5 +1,5 @@
 -- In what ranges the numbers of a trial deck are. This program's own.
-use Rattle.std.specs.Prelude.{ℕ, ◌≤◌}
+use Rattle.std.specs.Prelude.{◌≤◌}
 use Rattle.deck_maker.specs.declared.stream.Machine.{Machine}
 
 -- what is drawn for a unit

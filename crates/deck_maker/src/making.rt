@@ -309,12 +309,7 @@ fn add_tunnels(
 
 /// The trial deck of a seed, of 1 to 30 years and of 1 to 6 thermal candidates. The error is that memory is
 /// wanting.
-pub fn make_deck(
-    alloc: Global,
-    seed: u64,
-    years: u64,
-    candidates: u64,
-) -> Result<Deck, OutOfMemory>
+pub fn make_deck(alloc: Global, seed: u64, years: u64, candidates: u64) -> Result<Deck, OutOfMemory>
     requires years { (1 ≤ years) × (years ≤ 30) }
     requires candidates { (1 ≤ candidates) × (candidates ≤ 6) }
     ensures { IfOk result (λ deck. deck ≡ spec.trial seed years candidates) }

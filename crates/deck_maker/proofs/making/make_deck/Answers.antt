@@ -1,4 +1,4 @@
-use Rattle.std.proofs.Common.{ap, refl, ◌∙◌, rules}
+use Rattle.std.proofs.Common.{ap, ◌∙◌}
 use Rattle.deck_maker.specs.Stream.{Place}
 use Rattle.deck_maker.proofs.Growing.{whole}
 use Rattle.deck_maker.proofs.making.make_deck.Goals as goal
