@@ -1,0 +1,5 @@
+pub mod Stream
+pub mod TrialDeck
+pub mod Order
+pub mod Ranges
+pub mod Laws
