@@ -6,7 +6,8 @@
 //! before it, and so on backwards, each with its cost.
 //!
 //! The definition speaks of whole plans as lists. For each configuration of a year the k best ways to it are
-//! kept; the time is about that of the one best plan, and the memory k times it, for one year.
+//! kept, each with all its configurations, and those of the year before it. The time grows with the product of
+//! the numbers of entries of neighbouring years, and at most with k.
 #![tactic(auto)]
 
 mod offers;
