@@ -11,5 +11,5 @@ pub record IsTrial (book : List System) (d : Demand) : Type 0 where
   pub first : d.id ≡ 0
 
 -- room for that system
-abbrev pub HasTrialRoom : List System → Room → Type 0
-HasTrialRoom book room = (d : Demand) → d.id ≡ 0 → HasRoomFor room book d
+pub record HasTrialRoom (book : List System) (room : Room) : Type 0 where
+  pub holds : (d : Demand) → d.id ≡ 0 → HasRoomFor room book d

@@ -10,24 +10,20 @@ use std::test::Fail;
 use wasp_fixed::OutOfMemory;
 use year_system::{Book, YearSystem};
 
-/// A one-block candidate of 100 MW, of which up to so many are built.
-fn gas(number: u64, units: u64) -> Plant
-    ensures { result ≡ record { number = number; units = units; least = 100; full = 100; heat = 2000; inc = 2000; domestic = 500; foreign = 0; variable = 0; outage = 1000; repair = 0 } }
-{
-    Plant {
-        number,
-        units,
-        least: 100,
-        full: 100,
-        heat: 2000,
-        inc: 2000,
-        domestic: 500,
-        foreign: 0,
-        variable: 0,
-        outage: 1000,
-        repair: 0,
-    }
-}
+/// A one-block candidate of 100 MW, of which up to 9 are built.
+const GAS: Plant = Plant {
+    number: 41,
+    units: 9,
+    least: 100,
+    full: 100,
+    heat: 2000,
+    inc: 2000,
+    domestic: 500,
+    foreign: 0,
+    variable: 0,
+    outage: 1000,
+    repair: 0,
+};
 
 /// 100 MW all the time.
 fn flat_load(alloc: Global) -> Result<Listed<Load>, AllocError>
@@ -53,7 +49,14 @@ fn flat_load(alloc: Global) -> Result<Listed<Load>, AllocError>
 fn gas_year(alloc: Global) -> Result<YearSystem, AllocError> {
     let loads = flat_load(alloc)?;
     let weights = vec![in alloc; 10000u64]?;
-    let thermal = vec![in alloc; gas(41, 9), gas(42, 19)]?;
+    let thermal = vec![in alloc;
+        GAS,
+        Plant {
+            number: 42,
+            units: 19,
+            ..GAS
+        },
+    ]?;
     Ok(YearSystem::new(
         Rule::Merit,
         loads,

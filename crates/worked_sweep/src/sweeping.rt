@@ -54,15 +54,24 @@ fn mark(engine: &TapeEngine, marks: &mut [u64]) {
     }
 }
 
-/// How many of the 200 configurations the engines told together, and how many of them once.
-fn told(alloc: Global, engines: &[TapeEngine]) -> Result<(usize, usize), AllocError> {
-    let mut marks = vec![in alloc; 0u64; 200]?;
+/// How many marks lie from one number to another.
+fn marked(marks: &[u64], low: u64, high: u64) -> u64 {
+    let mut count = 0u64;
+    for mark in marks {
+        if low <= *mark && *mark <= high {
+            count = count.saturating_add(1);
+        }
+    }
+    count
+}
+
+/// How many configurations, so many places in all, the engines told together, and how many of them once.
+fn told(alloc: Global, engines: &[TapeEngine], places: usize) -> Result<(u64, u64), AllocError> {
+    let mut marks = vec![in alloc; 0u64; places]?;
     for engine in engines {
         mark(engine, &mut marks);
     }
-    let some = marks.iter().filter(|mark| **mark > 0).count();
-    let once = marks.iter().filter(|mark| **mark == 1).count();
-    Ok((some, once))
+    Ok((marked(&marks, 1, u64::MAX), marked(&marks, 1, 1)))
 }
 
 /// Whether the same rows are kept.
@@ -80,8 +89,8 @@ fn same_rows(one: &Kept, other: &Kept) -> bool {
 struct Outcome {
     filled: u64,
     kept: u64,
-    told: usize,
-    once: usize,
+    told: u64,
+    once: u64,
 }
 
 /// Sweeps the demands from one place to another with so many new engines.
@@ -100,8 +109,16 @@ fn sweep_with<R: Threads + Sync>(
     let asked = demands(alloc, book, 0, to)?;
     let mut engines = gas_engines(alloc, book, count)?;
     let mut tally = Tally::new();
-    keep_all(rt, alloc, kept, &mut engines, book, &asked, &mut tally)?;
-    let (told, once) = told(alloc, &engines)?;
+    keep_all(
+        rt,
+        alloc,
+        kept,
+        engines.as_mut_slice(),
+        book,
+        &asked,
+        &mut tally,
+    )?;
+    let (told, once) = told(alloc, &engines, 200)?;
     Ok(Outcome {
         filled: tally.filled(),
         kept: kept.len(),
