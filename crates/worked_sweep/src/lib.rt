@@ -4,8 +4,6 @@
 #![tactic(auto)]
 
 #[cfg(test)]
-mod filling;
-#[cfg(test)]
 mod gas;
 #[cfg(test)]
 mod sweeping;
