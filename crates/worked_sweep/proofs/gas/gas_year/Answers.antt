@@ -1,0 +1,31 @@
+use Rattle.std.proofs.Common.{◌≡◌, ℕ, List, [], ◌∷◌, ◌∙◌, sym, refl, subst}
+use Rattle.plant_data.specs.declared.plant.Plant.{Plant}
+use Rattle.plant_data.specs.declared.plant.Rule.TheVariants.{Merit}
+use Rattle.plant_data.specs.declared.shape.Load.{Load}
+use Rattle.year_system.specs.System.{IsSystem, System}
+use Rattle.year_system.proofs.Literals.{system_holds}
+use Rattle.worked_sweep.proofs.gas.gas_year.Goals as goal
+
+abbrev gas : ℕ → ℕ → Plant
+gas n count = record { number = n; units = count; least = 100; full = 100; heat = 2000; inc = 2000; domestic = 500; foreign = 0; variable = 0; outage = 1000; repair = 0 }
+
+abbrev gases : List Plant
+gases = gas 41 9 ∷ gas 42 19 ∷ []
+
+abbrev flat : Load
+flat = record { peak = 100; shape = record { load = 0; share = 10000 } ∷ record { load = 10000; share = 10000 } ∷ [] }
+
+abbrev year : System
+year = record { rule = Merit; loads = flat ∷ []; weights = 10000 ∷ []; existing = []; thermal = gases; groups = []; step = 1 }
+
+year_is : IsSystem year
+year_is = system_holds year refl
+
+pub new-requires-7 : goal.new-requires-7
+new-requires-7 c =
+    let loads : c.in_ok-loads.loads ≡ flat ∷ [] = c.in_ok-loads.ensures in
+    let weights : c.new.result ≡ 10000 ∷ [] = c.new.ensures ∙ c.in_ok-weights.ensures.items in
+    let existing : c.new-3.result ≡ [] = c.new-3.ensures ∙ c.new-2.ensures.items in
+    let thermal : c.new-4.result ≡ gases = c.new-4.ensures ∙ c.in_ok-thermal.ensures.items in
+    let groups : c.new-6.result ≡ [] = c.new-6.ensures ∙ c.new-5.ensures.items in
+    subst IsSystem (sym (λ i. record { rule = Merit; loads = loads i; weights = weights i; existing = existing i; thermal = thermal i; groups = groups i; step = 1 })) year_is
