@@ -1,6 +1,6 @@
 //! Both engines answer alike.
-ghost use Rattle.std.specs.Prelude.{◌≡◌, ◌≤◌, ◌+◌, length, IfOk, IfSome, IsOk, OnOk};
-ghost use Rattle.year_system.specs.System.{Fits, cells, unit_limit};
+ghost use Rattle.std.specs.Prelude.{◌≡◌, ◌≤◌, OnOk};
+ghost use Rattle.year_system.specs.System.{cells, unit_limit};
 
 use crate::decks::last_year;
 use plant_data::{Config, Row};

@@ -1,6 +1,4 @@
 //! Systems of decks as texts.
-ghost use Rattle.std.specs.Prelude.{IfOk};
-ghost use Rattle.deck_lines.specs.Grammar.{IsLine};
 
 use checked_deck::{CheckError, TypedDeck, check};
 use deck_lines::{Deck, Line, LineError, Mode, read_line};
