@@ -5,7 +5,7 @@ use deck_lines::{Deck, Line, LineError, Mode, read_line};
 use std::alloc::{AllocError, Global};
 use year_system::YearSystem;
 
-/// A year of two periods and three conditions: two plants and two candidates with maintenance, and two groups of
+/// A year of two periods and five conditions: two plants and two candidates with maintenance, and two groups of
 /// rivers. All blocks are whole on a grid of 20 MW.
 const BASE: &str = "\
 VERSION 2\n\
@@ -13,7 +13,7 @@ YEARS 1\n\
 PERIODS 2\n\
 RATE 1000 800\n\
 ENS 100000\n\
-CONDITIONS 4000 3500 2500\n\
+CONDITIONS 3000 2500 2000 1500 1000\n\
 GRID 10\n\
 SHAPE 1 0 10000 3000 9000 6000 6000 10000 500\n\
 FUEL 1 500 100\n\
@@ -28,12 +28,12 @@ HYDRO 2 LAKE 0 1 0\n\
 PROJECT 1 1 60 0 0 50\n\
 PROJECT 1 2 60 500 0 50\n\
 PROJECT 2 1 40 500 0 50\n\
-WATER 1 1 1 20 40 30000 20 40 20000 0 40 9000\n\
-WATER 1 1 2 40 20 25000 20 40 15000 0 20 1000\n\
-WATER 1 2 1 20 40 30000 20 40 20000 0 40 9000\n\
-WATER 1 2 2 20 40 25000 20 40 20000 0 20 3000\n\
-WATER 2 1 1 0 40 12000 0 40 9000 0 20 3000\n\
-WATER 2 1 2 0 40 10000 0 40 8000 0 0 0\n\
+WATER 1 1 1 20 40 30000 20 40 20000 20 40 10000 0 40 9000 0 20 2000\n\
+WATER 1 1 2 40 20 25000 20 40 20000 20 40 15000 0 40 9000 0 20 1000\n\
+WATER 1 2 1 20 40 30000 20 40 20000 20 40 10000 0 40 9000 0 20 2000\n\
+WATER 1 2 2 40 20 25000 20 40 20000 20 40 15000 0 40 8000 0 20 3000\n\
+WATER 2 1 1 0 40 12000 0 40 9000 0 40 6000 0 20 3000 0 0 0\n\
+WATER 2 1 2 0 40 10000 0 40 8000 0 40 6000 0 20 3000 0 0 0\n\
 TUNNEL 1 1 0 2 0 2 0 1 0 1\n\
 MARGIN 1 1 0 100000\n\
 LOLP 1 1 1000000000 1000000000\n";
