@@ -1,5 +1,5 @@
 //! The shelf.
-ghost use Rattle.std.specs.Prelude.{◌≡◌, ℕ, ◌+◌, ◌-◌, ◌^◌, ◌<◌, ◌≤◌, [], All, Contains, IfOk, OnErr, OnOk, length, map};
+ghost use Rattle.std.specs.Prelude.{◌≡◌, ℕ, ◌+◌, ◌-◌, ◌^◌, ◌<◌, ◌≤◌, [], All, Contains, IfOk, OnErr, OnOk, Some, length, map, slice_get};
 ghost use Rattle.cost_terms.specs.CostData.{IsEconomy};
 ghost use Rattle.plan_program.specs.Plans.{layer_at};
 ghost use Rattle.row_shelf.specs.Adds.{FillsCases};
@@ -8,6 +8,7 @@ ghost use Rattle.row_shelf.specs.Shelf.{Grows, Holds, IsShelf, no_rows};
 ghost use Rattle.row_shelf.specs.Tables.{FitEconomy, IsTableBy};
 ghost use Rattle.row_shelf.specs.Rooms.{AreWidenedFor, widened_for};
 ghost use Rattle.sim_engine.specs.Engine.{Run, raised};
+ghost use Rattle.year_system.specs.System.{IsSystem};
 ghost use Rattle.sim_sweep.specs.Works.{HaveRun};
 
 use crate::demands::{all_demands, case_demands};
@@ -72,6 +73,15 @@ impl Shelf {
         ensures valid { IsShelf self.now }
     {
         self.book.len()
+    }
+
+    /// The system with a number.
+    pub fn system(&self, number: u64) -> &YearSystem
+        requires within { number < length self.now.book }
+        ensures value { slice_get self.now.book number ≡ Some result.now }
+        ensures valid { IsSystem result.now }
+    {
+        self.book.get(number)
     }
 
     /// The numbers of year systems, in their order; new ones are added to the book. After want of memory some may

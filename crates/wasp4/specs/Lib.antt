@@ -1,6 +1,6 @@
+pub mod Going
 pub mod Hours
 pub mod Oneness
 pub mod Out
 pub mod Progress
 pub mod Script
-pub mod Work

@@ -11,7 +11,7 @@ use Rattle.deck_lines.specs.declared.line.Line.TheVariants as lines
 use Rattle.deck_lines.specs.declared.line.Mode.{Mode}
 use Rattle.wasp_session.specs.Checks.{check_count, open_at}
 use Rattle.wasp_session.specs.Modes.{mode_of}
-use Rattle.wasp_session.specs.Said.{plan_count}
+use Rattle.wasp_session.specs.Tasks.{plan_count}
 use Rattle.wasp_session.specs.declared.command.Command.{Command}
 
 -- the first line with a fault, by its number from 1

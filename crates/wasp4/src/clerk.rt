@@ -1,20 +1,19 @@
 //! Line by line: each is read, answered, and its text put before anything behind it is asked for.
-ghost use Rattle.std.specs.Prelude.{◌≡◌, ◌+◌, ◌≤◌, [], List, ℕ, IfOk, IfSome, None, OnErr, Ok, Some, false, length, map};
+ghost use Rattle.std.specs.Prelude.{◌≡◌, ◌+◌, ◌≤◌, [], List, ℕ, IfOk, IfSome, None, OnErr, OnOk, Ok, Some, false, length};
 ghost use Rattle.wasp_io.specs.Causes.{HasCause};
 ghost use Rattle.line_reader.specs.Reading.{ahead};
 ghost use Rattle.deck_lines.specs.declared.line.Line.{Line as Stated};
-ghost use Rattle.sim_engine.specs.Engine.{Work};
-ghost use Rattle.sim_sweep.specs.Works.{first_work};
-ghost use Rattle.wasp_session.specs.State.{Follows};
+ghost use Rattle.wasp_session.specs.State.{begun};
 ghost use Rattle.wasp_session.specs.declared.command.Command.{Command as Asked};
 ghost use Rattle.wasp4.specs.Progress.{PutAs, Serves};
-ghost use Rattle.wasp4.specs.Work.{HasRun};
+ghost use Rattle.wasp4.specs.Going.{Effort, HasRun, HasTaken, effort_by};
 
 use crate::putting::put_all;
 use crate::status::{Status, Turn};
 use crate::turn::{MOST_LINES, past_lines, turn};
 use line_reader::ByteReader;
 use sim_engine::SimEngine;
+use sim_sweep::Tally;
 use std::alloc::Global;
 use std::thread::Threads;
 use wasp_fixed::OutOfMemory;
@@ -55,9 +54,7 @@ impl Clerk {
     /// Before the first line. It takes no memory.
     pub(crate) fn start(alloc: Global, command: Command) -> Self
         ensures reader { result.reader ≡ [] }
-        ensures command { result.session.command ≡ command }
-        ensures nos { result.session.nos ≡ 0 }
-        ensures follows { Follows [] result.session }
+        ensures session { result.session ≡ begun command [] }
     {
         Clerk {
             alloc,
@@ -81,11 +78,15 @@ impl Clerk {
         requires last { number ≤ MOST_LINES }
         requires some { 1 ≤ length engines.old }
         requires most { length engines.old ≤ 64 }
+        requires taken { HasTaken self.old.session }
         requires source { S.ended source.old ≡ false }
         requires sink { K.failed sink.old ≡ false }
-        ensures serves { (command : Asked) (read : List Stated) (said : List ℕ) (start : Work) → number ≡ length read + 1
-            → HasRun command read self.old.session said start (first_work (map E.work engines.old))
-            → IfOk result (λ served. Serves command (ahead self.old.reader (S.left source.old)) (ahead self.new.reader (S.left source.new)) (K.written sink.old) (K.written sink.new) read self.new.session said start (first_work (map E.work engines.new)) served) }
+        ensures taken { OnOk result (HasTaken self.new.session) }
+        ensures serves { (command : Asked) (read : List Stated) (said : List ℕ) (start : Effort) → number ≡ length read + 1
+            → HasRun command read self.old.session said start (effort_by E.work engines.old self.old.session.memory.tally)
+            → IfOk result (λ served. Serves command (ahead self.old.reader (S.left source.old))
+            (ahead self.new.reader (S.left source.new)) (K.written sink.old) (K.written sink.new) read
+            self.new.session said start (effort_by E.work engines.new self.new.session.memory.tally) served) }
         ensures nothing_kept { result ≡ Ok (Some Status.ReadFault) → self.new.reader ≡ [] }
         ensures source { result ≡ Ok None → S.ended source.new ≡ false }
         ensures sink { result ≡ Ok None → K.failed sink.new ≡ false }
@@ -110,6 +111,14 @@ impl Clerk {
         Ok(put_turn(sink, &self.text, turn))
     }
 
+    /// How many rows sweeps have filled.
+    pub(crate) fn into_tally(self) -> Tally
+        ensures { result ≡ self.session.memory.tally }
+    {
+        let Clerk { session, .. } = self;
+        session.into_tally()
+    }
+
     /// What stands behind the last line that a script may have.
     pub(crate) fn serve_past<S: Source, K: Sink>(
         &mut self,
@@ -118,8 +127,12 @@ impl Clerk {
     ) -> Result<Status, OutOfMemory>
         requires source { S.ended source.old ≡ false }
         requires sink { K.failed sink.old ≡ false }
-        ensures serves { (command : Asked) (read : List Stated) (said : List ℕ) (start now : Work) → MOST_LINES ≡ length read → HasRun command read self.old.session said start now
-            → IfOk result (λ status. Serves command (ahead self.old.reader (S.left source.old)) (ahead self.new.reader (S.left source.new)) (K.written sink.old) (K.written sink.new) read self.new.session said start now (Some status)) }
+        ensures serves { (command : Asked) (read : List Stated) (said : List ℕ) (start now : Effort) → MOST_LINES ≡ length read
+            → HasRun command read self.old.session said start now
+            → IfOk result (λ status. Serves command (ahead self.old.reader (S.left source.old))
+            (ahead self.new.reader (S.left source.new)) (K.written sink.old) (K.written sink.new) read
+            self.new.session said start now (Some status)) }
+        ensures tally { self.new.session.memory.tally ≡ self.old.session.memory.tally }
         ensures nothing_kept { result ≡ Ok Status.ReadFault → self.new.reader ≡ [] }
         ensures read { HasCause (S.faults source.old) (S.faults source.new) (result ≡ Ok Status.ReadFault) }
         ensures write { HasCause (K.faults sink.old) (K.faults sink.new) (result ≡ Ok Status.WriteFault) }

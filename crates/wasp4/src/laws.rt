@@ -1,5 +1,5 @@
 //! Laws about the text of a script.
-ghost use Rattle.wasp4.specs.Oneness.{TextsAreOne, TextsGoOn};
+ghost use Rattle.wasp4.specs.Oneness.{TextsAreOne, TextsGoOn, WorkersWriteOneText};
 
 use wasp_session::{key_lists_are_one, telling_of_a_front, tellings_are_one};
 
@@ -18,5 +18,13 @@ pub fn texts_go_on()
 {
     tellings_are_one();
     telling_of_a_front();
+    key_lists_are_one();
+}
+
+/// `plan --workers N` and `plan` write the same bytes and end the same, as any two runs of a command over the same bytes.
+pub fn workers_write_one_text()
+    ensures { WorkersWriteOneText }
+{
+    tellings_are_one();
     key_lists_are_one();
 }

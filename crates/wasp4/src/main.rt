@@ -8,6 +8,7 @@
 
 ghost use Rattle.std.specs.Prelude.{◌≡◌};
 
+mod asked;
 mod clerk;
 mod hours;
 mod laws;
@@ -17,8 +18,10 @@ mod top;
 mod turn;
 mod words;
 
-pub use laws::{texts_are_one, texts_go_on};
+pub use asked::Asked;
+pub use laws::{texts_are_one, texts_go_on, workers_write_one_text};
 use sim_engine::StackEngine;
+use sim_sweep::Tally;
 pub use status::{Ending, Status};
 use std::alloc::Global;
 use std::process::ExitCode;
@@ -31,6 +34,9 @@ pub use words::CommandWords;
 
 #[cfg(test)]
 mod tests;
+
+/// The most engines that can be asked for.
+const MOST_ENGINES: usize = 64;
 
 /// The words after the program's name; none where they cannot be read, as bytes that are no text.
 fn read_words(rt: &(impl Env + AllocGlobal), alloc: Global) -> Result<CommandWords, OutOfMemory> {
@@ -46,6 +52,15 @@ fn read_words(rt: &(impl Env + AllocGlobal), alloc: Global) -> Result<CommandWor
     Ok(words)
 }
 
+/// As many engines as may be asked for. One takes memory only once it works.
+fn make_engines(alloc: Global) -> Result<Vec<StackEngine>, OutOfMemory> {
+    let mut engines = Vec::new(alloc);
+    for _ in 0..MOST_ENGINES {
+        engines.push(StackEngine::new(alloc))?;
+    }
+    Ok(engines)
+}
+
 fn main(rt: HostRuntime) -> ExitCode {
     let alloc = rt.alloc();
     let Ok(words) = read_words(&rt, alloc) else {
@@ -53,7 +68,18 @@ fn main(rt: HostRuntime) -> ExitCode {
     };
     let mut source = StdSource::new(rt.reader());
     let mut sink = StdSink::new(io::writer(&rt));
-    let mut engines = [StackEngine::new(alloc)];
-    let status = run(&rt, alloc, &words, &mut engines, &mut source, &mut sink);
+    let Ok(mut engines) = make_engines(alloc) else {
+        return ExitCode::from(Status::OutOfMemory.exit());
+    };
+    let mut tally = Tally::new();
+    let status = run(
+        &rt,
+        alloc,
+        &words,
+        &mut engines,
+        &mut source,
+        &mut sink,
+        &mut tally,
+    );
     ExitCode::from(status.exit())
 }

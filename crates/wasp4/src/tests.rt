@@ -3,6 +3,7 @@ use checked_deck::check;
 use deck_lines::{Deck, Line, Mode, read_line};
 use plant_data::Config;
 use sim_engine::{PlainEngine, SimEngine, TapeEngine};
+use sim_sweep::Tally;
 use std::alloc::Global;
 use std::test::Fail;
 use std::thread::Threads;
@@ -50,7 +51,16 @@ fn plan<R: Threads + Sync>(
     let mut words = CommandWords::new(alloc);
     words.push("plan")?;
     let mut engines = [PlainEngine::new(alloc)];
-    let status = run(rt, alloc, &words, &mut engines, &mut source, &mut sink);
+    let mut tally = Tally::new();
+    let status = run(
+        rt,
+        alloc,
+        &words,
+        &mut engines,
+        &mut source,
+        &mut sink,
+        &mut tally,
+    );
     Ok((status, sink.bytes().to_vec(alloc)?))
 }
 
@@ -141,6 +151,7 @@ fn each_key_is_simulated_once(rt: HostRuntime) -> Result<(), Fail> {
     let mut systems = Vec::new(rt.alloc());
     systems.push(system(rt.alloc())?)?;
     let mut engines = [TapeEngine::new(rt.alloc(), systems, 10)?];
+    let mut tally = Tally::new();
     let status = run(
         &rt,
         rt.alloc(),
@@ -148,6 +159,7 @@ fn each_key_is_simulated_once(rt: HostRuntime) -> Result<(), Fail> {
         &mut engines,
         &mut source,
         &mut sink,
+        &mut tally,
     );
     assert_eq!(rt; status, Status::Done);
     let Some(runs) = engines[0].runs() else {
@@ -171,6 +183,7 @@ fn other_words_get_the_usage_line(rt: HostRuntime) -> Result<(), Fail> {
     let mut sink = MemSink::new(rt.alloc(), 300, 8, &[])?;
     let words = CommandWords::new(rt.alloc());
     let mut engines = [PlainEngine::new(rt.alloc())];
+    let mut tally = Tally::new();
     let status = run(
         &rt,
         rt.alloc(),
@@ -178,6 +191,7 @@ fn other_words_get_the_usage_line(rt: HostRuntime) -> Result<(), Fail> {
         &mut engines,
         &mut source,
         &mut sink,
+        &mut tally,
     );
     assert_eq!(rt; status, Status::BadWords);
     assert_eq!(rt; sink.bytes(), usage);
@@ -192,6 +206,7 @@ fn sure_edges_never_fail(rt: HostRuntime) -> Result<(), Fail> {
     let mut words = CommandWords::new(rt.alloc());
     words.push("plan")?;
     let mut engines = [PlainEngine::new(rt.alloc())];
+    let mut tally = Tally::new();
     let status = run(
         &rt,
         rt.alloc(),
@@ -199,6 +214,7 @@ fn sure_edges_never_fail(rt: HostRuntime) -> Result<(), Fail> {
         &mut engines,
         &mut source,
         &mut sink,
+        &mut tally,
     );
     match status {
         Status::ReadFault | Status::WriteFault => unreachable!(),
@@ -219,7 +235,16 @@ fn hours<R: Threads + Sync>(
     words.push("hours")?;
     words.push("2")?;
     let mut engines = [PlainEngine::new(alloc)];
-    let status = run(rt, alloc, &words, &mut engines, &mut source, &mut sink);
+    let mut tally = Tally::new();
+    let status = run(
+        rt,
+        alloc,
+        &words,
+        &mut engines,
+        &mut source,
+        &mut sink,
+        &mut tally,
+    );
     Ok((status, sink.bytes().to_vec(alloc)?))
 }
 

@@ -1,11 +1,11 @@
 //! The top call.
-ghost use Rattle.std.specs.Prelude.{◌≡◌, ◌↔◌, ◌≤◌, ℕ, IfOk, IsTrue, None, Ok, OnErr, Some, drop, false, length, map};
+ghost use Rattle.std.specs.Prelude.{◌≡◌, ◌≢◌, ◌↔◌, ◌≤◌, ℕ, [], IfOk, IsTrue, None, Ok, OnErr, Some, drop, false, length};
 ghost use Rattle.wasp_io.specs.Causes.{HasCause};
-ghost use Rattle.sim_sweep.specs.Works.{first_work};
+ghost use Rattle.wasp4.specs.Going.{HasBegun, effort_by};
 ghost use Rattle.wasp4.specs.Hours.{AnswersHours, HasRoomForHours};
 ghost use Rattle.wasp4.specs.Out as spec;
-ghost use Rattle.wasp4.specs.Progress.{Answers, HasRoomFor, SaysUsage, StopsWithin};
-ghost use Rattle.wasp_session.specs.declared.command.Command.{Command as Asked};
+ghost use Rattle.wasp4.specs.Progress.{Answers, AnswersBy, HasRoomFor, SaysUsage, StopsWithin};
+ghost use Rattle.wasp4.specs.declared.asked.Asked.{Asked};
 
 use crate::clerk::Clerk;
 use crate::hours::run_hours;
@@ -14,6 +14,7 @@ use crate::status::Status;
 use crate::turn::MOST_LINES;
 use crate::words::CommandWords;
 use sim_engine::SimEngine;
+use sim_sweep::Tally;
 use std::alloc::Global;
 use std::thread::Threads;
 use wasp_fixed::OutOfMemory;
@@ -23,30 +24,63 @@ use wasp_session::Command;
 /// Reads a script and writes what it is answered with, line by line.
 fn read_script<E: SimEngine, R: Threads + Sync, S: Source, K: Sink>(
     rt: &R,
-    alloc: Global,
-    command: Command,
+    clerk: &mut Clerk,
     engines: &mut [E],
     source: &mut S,
     sink: &mut K,
 ) -> Result<Status, OutOfMemory>
     requires some { 1 ≤ length engines.old }
     requires most { length engines.old ≤ 64 }
+    requires reader { clerk.old.reader ≡ [] }
+    requires session { HasBegun clerk.old.session }
     requires source { S.ended source.old ≡ false }
     requires sink { K.failed sink.old ≡ false }
-    ensures answer { IfOk result (λ status. Answers command (S.left source.old) (S.left source.new) (K.written sink.old) (K.written sink.new) (first_work (map E.work engines.old)) (first_work (map E.work engines.new)) status) }
-    ensures err { OnErr result (StopsWithin command (S.left source.old) (K.written sink.old) (K.written sink.new)) }
+    ensures answer { IfOk result (λ status. Answers clerk.old.session.command (S.left source.old) (S.left source.new)
+        (K.written sink.old) (K.written sink.new) (effort_by E.work engines.old 0)
+        (effort_by E.work engines.new clerk.new.session.memory.tally) status) }
+    ensures err { OnErr result (StopsWithin clerk.old.session.command (S.left source.old) (K.written sink.old) (K.written sink.new)) }
     ensures read { HasCause (S.faults source.old) (S.faults source.new) (result ≡ Ok Status.ReadFault) }
     ensures write { HasCause (K.faults sink.old) (K.faults sink.new) (result ≡ Ok Status.WriteFault) }
     ensures sure { S.sure source.new ≡ S.sure source.old }
     ensures sure_room { K.sure_room sink.new ≡ K.sure_room sink.old }
 {
-    let mut clerk = Clerk::start(alloc, command);
     for number in 0..MOST_LINES {
         if let Some(status) = clerk.serve(rt, number + 1, engines, source, sink)? {
             return Ok(status);
         }
     }
     clerk.serve_past(source, sink)
+}
+
+/// Answers the script that is asked for, by engines, and counts the rows that they filled.
+fn answer_script<E: SimEngine, R: Threads + Sync, S: Source, K: Sink>(
+    rt: &R,
+    alloc: Global,
+    command: Command,
+    engines: &mut [E],
+    source: &mut S,
+    sink: &mut K,
+    tally: &mut Tally,
+) -> Status
+    requires some { 1 ≤ length engines.old }
+    requires most { length engines.old ≤ 64 }
+    requires source { S.ended source.old ≡ false }
+    requires sink { K.failed sink.old ≡ false }
+    ensures answer { Answers command (S.left source.old) (S.left source.new) (K.written sink.old) (K.written sink.new)
+        (effort_by E.work engines.old tally.old) (effort_by E.work engines.new tally.new) result }
+    ensures words { result ≢ Status.BadWords }
+    ensures read { HasCause (S.faults source.old) (S.faults source.new) (result ≡ Status.ReadFault) }
+    ensures write { HasCause (K.faults sink.old) (K.faults sink.new) (result ≡ Status.WriteFault) }
+    ensures sure { S.sure source.new ≡ S.sure source.old }
+    ensures sure_room { K.sure_room sink.new ≡ K.sure_room sink.old }
+{
+    let mut clerk = Clerk::start(alloc, command);
+    let read = read_script(rt, &mut clerk, engines, source, sink);
+    tally.add(clerk.into_tally());
+    match read {
+        Ok(status) => status,
+        Err(OutOfMemory) => Status::OutOfMemory,
+    }
 }
 
 /// Answers the script that the words ask for, or says how they are used.
@@ -57,6 +91,7 @@ fn run_script<E: SimEngine, R: Threads + Sync, S: Source, K: Sink>(
     engines: &mut [E],
     source: &mut S,
     sink: &mut K,
+    tally: &mut Tally,
 ) -> Status
     requires source { S.ended source.old ≡ false }
     requires sink { K.failed sink.old ≡ false }
@@ -64,13 +99,17 @@ fn run_script<E: SimEngine, R: Threads + Sync, S: Source, K: Sink>(
 
     // Then nothing is read or simulated, and the usage line is written, or a front of it where the sink failed.
     ensures unread { result ≡ Status.BadWords → source.new ≡ source.old }
-    ensures idle { result ≡ Status.BadWords → engines.new ≡ engines.old }
+    ensures idle { result ≡ Status.BadWords → (engines.new ≡ engines.old) × (tally.new ≡ tally.old) }
     ensures usage { result ≡ Status.BadWords → SaysUsage (K.written sink.old) (K.written sink.new) (K.faults sink.old) (K.faults sink.new) }
 
-    // The headline: what is written is the text that the lines define, and each key was simulated once.
-    ensures answer { (command : Asked) → spec.accepted words.now (length engines.old) ≡ Some command → Answers command (S.left source.old) (S.left source.new) (K.written sink.old) (K.written sink.new) (first_work (map E.work engines.old)) (first_work (map E.work engines.new)) result }
+    // The headline: what is written is the text that the lines define, and each key was simulated once by one of the
+    // engines that the words ask for. The others are as before.
+    ensures answer { (asked : Asked) → spec.accepted words.now (length engines.old) ≡ Some asked → AnswersBy asked
+        (S.left source.old) (S.left source.new) (K.written sink.old) (K.written sink.new)
+        E.work engines.old engines.new tally.old tally.new result }
     ensures engines { length engines.new ≡ length engines.old }
-    ensures others { drop 1 engines.new ≡ drop 1 engines.old }
+    ensures others { (asked : Asked) → spec.accepted words.now (length engines.old) ≡ Some asked
+        → drop (spec.used asked) engines.new ≡ drop (spec.used asked) engines.old }
 
     // A count of faults rises by the fault that is answered alone.
     ensures read { HasCause (S.faults source.old) (S.faults source.new) (result ≡ Status.ReadFault) }
@@ -78,15 +117,20 @@ fn run_script<E: SimEngine, R: Threads + Sync, S: Source, K: Sink>(
     ensures sure { S.sure source.new ≡ S.sure source.old }
     ensures sure_room { K.sure_room sink.new ≡ K.sure_room sink.old }
     ensures never_read_fault { IsTrue (S.sure source.old) → (result ≡ Status.ReadFault) → ⊥ }
-    ensures never_write_fault { (command : Asked) → spec.accepted words.now (length engines.old) ≡ Some command → HasRoomFor command (S.left source.old) (K.written sink.old) (K.sure_room sink.old) → (result ≡ Status.WriteFault) → ⊥ }
+    ensures never_write_fault { (asked : Asked) → spec.accepted words.now (length engines.old) ≡ Some asked
+        → HasRoomFor (spec.command_of asked) (S.left source.old) (K.written sink.old) (K.sure_room sink.old)
+        → (result ≡ Status.WriteFault) → ⊥ }
 {
-    match words.command() {
-        Some(command) if !engines.is_empty() => {
-            match read_script(rt, alloc, command, &mut engines[..1], source, sink) {
-                Ok(status) => status,
-                Err(OutOfMemory) => Status::OutOfMemory,
-            }
-        }
+    match words.asked() {
+        Some(asked) if asked.engines() <= engines.len() => answer_script(
+            rt,
+            alloc,
+            asked.command(),
+            &mut engines[..asked.engines()],
+            source,
+            sink,
+            tally,
+        ),
         _ => {
             put_usage(sink);
             Status::BadWords
@@ -121,6 +165,7 @@ pub fn run<E: SimEngine, R: Threads + Sync, S: Source, K: Sink>(
     engines: &mut [E],
     source: &mut S,
     sink: &mut K,
+    tally: &mut Tally,
 ) -> Status
     requires source { S.ended source.old ≡ false }
     requires sink { K.failed sink.old ≡ false }
@@ -128,17 +173,22 @@ pub fn run<E: SimEngine, R: Threads + Sync, S: Source, K: Sink>(
 
     // Then nothing is read or simulated, and the usage line is written, or a front of it where the sink failed.
     ensures unread { result ≡ Status.BadWords → source.new ≡ source.old }
-    ensures idle { result ≡ Status.BadWords → engines.new ≡ engines.old }
+    ensures idle { result ≡ Status.BadWords → (engines.new ≡ engines.old) × (tally.new ≡ tally.old) }
     ensures usage { result ≡ Status.BadWords → SaysUsage (K.written sink.old) (K.written sink.new) (K.faults sink.old) (K.faults sink.new) }
 
-    // The headline: what is written is the text that the lines define, and each key was simulated once.
-    ensures answer { (command : Asked) → spec.accepted words.now (length engines.old) ≡ Some command → Answers command (S.left source.old) (S.left source.new) (K.written sink.old) (K.written sink.new) (first_work (map E.work engines.old)) (first_work (map E.work engines.new)) result }
+    // The headline: what is written is the text that the lines define, and each key was simulated once by one of the
+    // engines that the words ask for. The others are as before.
+    ensures answer { (asked : Asked) → spec.accepted words.now (length engines.old) ≡ Some asked → AnswersBy asked
+        (S.left source.old) (S.left source.new) (K.written sink.old) (K.written sink.new)
+        E.work engines.old engines.new tally.old tally.new result }
 
     // Of hourly loads: what is written is the text of their shape, or of the first line with a fault, and no engine works.
     ensures hours { (points : ℕ) → spec.hours_points words.now ≡ Some points → AnswersHours points (S.left source.old) (S.left source.new) (K.written sink.old) (K.written sink.new) result }
-    ensures no_engine { (points : ℕ) → spec.hours_points words.now ≡ Some points → engines.new ≡ engines.old }
+    ensures no_engine { (points : ℕ) → spec.hours_points words.now ≡ Some points
+        → (engines.new ≡ engines.old) × (tally.new ≡ tally.old) }
     ensures engines { length engines.new ≡ length engines.old }
-    ensures others { drop 1 engines.new ≡ drop 1 engines.old }
+    ensures others { (asked : Asked) → spec.accepted words.now (length engines.old) ≡ Some asked
+        → drop (spec.used asked) engines.new ≡ drop (spec.used asked) engines.old }
 
     // A count of faults rises by the fault that is answered alone.
     ensures read { HasCause (S.faults source.old) (S.faults source.new) (result ≡ Status.ReadFault) }
@@ -146,11 +196,13 @@ pub fn run<E: SimEngine, R: Threads + Sync, S: Source, K: Sink>(
     ensures sure { S.sure source.new ≡ S.sure source.old }
     ensures sure_room { K.sure_room sink.new ≡ K.sure_room sink.old }
     ensures never_read_fault { IsTrue (S.sure source.old) → (result ≡ Status.ReadFault) → ⊥ }
-    ensures never_write_fault { (command : Asked) → spec.accepted words.now (length engines.old) ≡ Some command → HasRoomFor command (S.left source.old) (K.written sink.old) (K.sure_room sink.old) → (result ≡ Status.WriteFault) → ⊥ }
+    ensures never_write_fault { (asked : Asked) → spec.accepted words.now (length engines.old) ≡ Some asked
+        → HasRoomFor (spec.command_of asked) (S.left source.old) (K.written sink.old) (K.sure_room sink.old)
+        → (result ≡ Status.WriteFault) → ⊥ }
     ensures never_cut { (points : ℕ) → spec.hours_points words.now ≡ Some points → HasRoomForHours points (S.left source.old) (K.written sink.old) (K.sure_room sink.old) → (result ≡ Status.WriteFault) → ⊥ }
 {
     match words.points() {
         Some(points) => run_hours(alloc, points, source, sink),
-        None => run_script(rt, alloc, words, engines, source, sink),
+        None => run_script(rt, alloc, words, engines, source, sink, tally),
     }
 }

@@ -9,13 +9,11 @@ ghost use Rattle.deck_lines.specs.declared.line.Line.{Line as Stated};
 ghost use Rattle.deck_lines.specs.declared.line.Line.TheVariants as lines;
 ghost use Rattle.report_text.specs.Lines.{keys_line};
 ghost use Rattle.report_text.specs.Refusals.{malformed_line};
-ghost use Rattle.sim_engine.specs.Engine.{Work};
-ghost use Rattle.sim_sweep.specs.Works.{first_work};
 ghost use Rattle.wasp_session.specs.Modes.{IsOfMode, mode_of};
 ghost use Rattle.wasp_session.specs.declared.command.Command.{Command};
 ghost use Rattle.wasp4.specs.Progress.{AnswersLine, TurnFrom};
 ghost use Rattle.wasp4.specs.Script.{stated, within_counts};
-ghost use Rattle.wasp4.specs.Work.{HasRun};
+ghost use Rattle.wasp4.specs.Going.{Effort, HasRun, HasTaken, effort_by};
 
 use crate::status::{Ending, Turn};
 use deck_lines::{Line, LineError, LineFault, LineKind, read_line};
@@ -44,7 +42,7 @@ pub(crate) fn refuse(
     fault: &LineFault,
     text: &mut Vec<u8>,
 ) -> Result<(), OutOfMemory>
-    ensures { OnOk result (text.new.items ≡ (text.old.items ++ malformed_line number fault.now) ++ keys_line (length session.now.kept)) }
+    ensures { OnOk result (text.new.items ≡ (text.old.items ++ malformed_line number fault.now) ++ keys_line (length session.now.memory.shelf.kept)) }
 {
     write_malformed(number, fault, text)?;
     write_keys(session.keys(), text)
@@ -93,9 +91,12 @@ fn answer<E: SimEngine, R: Threads + Sync>(
     requires clear { text.old.items ≡ [] }
     requires some { 1 ≤ length engines.old }
     requires most { length engines.old ≤ 64 }
-    ensures answer { (command : Command) (read : List Stated) (said : List ℕ) (start : Work) → number ≡ length read + 1
-        → HasRun command read session.old said start (first_work (map E.work engines.old))
-        → IfOk result (λ turn. AnswersLine command read bytes.now session.new (said ++ text.new.items) start (first_work (map E.work engines.new)) turn) }
+    requires taken { HasTaken session.old }
+    ensures taken { OnOk result (HasTaken session.new) }
+    ensures answer { (command : Command) (read : List Stated) (said : List ℕ) (start : Effort) → number ≡ length read + 1
+        → HasRun command read session.old said start (effort_by E.work engines.old session.old.memory.tally)
+        → IfOk result (λ turn. AnswersLine command read bytes.now session.new (said ++ text.new.items) start
+        (effort_by E.work engines.new session.new.memory.tally) turn) }
 {
     match state(alloc, session, bytes) {
         Ok(line) => match session.line(rt, line, engines, text)? {
@@ -113,7 +114,7 @@ fn answer<E: SimEngine, R: Threads + Sync>(
 
 /// Says that line `number` is missing, and how many keys there were.
 fn refuse_end(session: &Session, number: u64, text: &mut Vec<u8>) -> Result<(), OutOfMemory>
-    ensures { OnOk result (text.new.items ≡ (text.old.items ++ malformed_line number (record { kind = LineKind.NoEnd; column = 1 })) ++ keys_line (length session.now.kept)) }
+    ensures { OnOk result (text.new.items ≡ (text.old.items ++ malformed_line number (record { kind = LineKind.NoEnd; column = 1 })) ++ keys_line (length session.now.memory.shelf.kept)) }
 {
     let fault = LineFault {
         kind: LineKind::NoEnd,
@@ -139,9 +140,11 @@ pub(crate) fn turn<E: SimEngine, R: Threads + Sync, S: Source>(
     requires clear { text.old.items ≡ [] }
     requires some { 1 ≤ length engines.old }
     requires most { length engines.old ≤ 64 }
-    ensures turn { (command : Command) (read : List Stated) (said : List ℕ) (start : Work) → number ≡ length read + 1
-        → HasRun command read session.old said start (first_work (map E.work engines.old))
-        → IfOk result (λ turn. TurnFrom command (ahead reader.old (S.left source.old)) (ahead reader.new (S.left source.new)) read session.new said text.new.items start (first_work (map E.work engines.new)) turn) }
+    requires taken { HasTaken session.old }
+    ensures taken { OnOk result (HasTaken session.new) }
+    ensures turn { (command : Command) (read : List Stated) (said : List ℕ) (start : Effort) → number ≡ length read + 1
+        → HasRun command read session.old said start (effort_by E.work engines.old session.old.memory.tally)
+        → IfOk result (λ turn. TurnFrom command (ahead reader.old (S.left source.old)) (ahead reader.new (S.left source.new)) read session.new said text.new.items start (effort_by E.work engines.new session.new.memory.tally) turn) }
     ensures source { result ≡ Ok (Some Turn.Goes) → S.ended source.new ≡ false }
     ensures cause { HasCause (S.faults source.old) (S.faults source.new) (result ≡ Ok None) }
     ensures sure { S.sure source.new ≡ S.sure source.old }
@@ -181,7 +184,7 @@ pub(crate) fn past_lines<S: Source>(
 ) -> Result<Option<Turn>, OutOfMemory>
     requires source { S.ended source.old ≡ false }
     requires clear { text.old.items ≡ [] }
-    ensures turn { (command : Command) (read : List Stated) (said : List ℕ) (start now : Work) → MOST_LINES ≡ length read → HasRun command read session.now said start now
+    ensures turn { (command : Command) (read : List Stated) (said : List ℕ) (start now : Effort) → MOST_LINES ≡ length read → HasRun command read session.now said start now
         → IfOk result (λ turn. TurnFrom command (ahead reader.old (S.left source.old)) (ahead reader.new (S.left source.new)) read session.now said text.new.items start now turn) }
     ensures over { result ≢ Ok (Some Turn.Goes) }
     ensures cause { HasCause (S.faults source.old) (S.faults source.new) (result ≡ Ok None) }

@@ -2,11 +2,11 @@
 ghost use Rattle.std.specs.Prelude.{◌≡◌, ◌≤◌, ◌++◌, ◌∷◌, [], IfSome, OnErr, OnOk};
 ghost use Rattle.wasp4.specs.Out as spec;
 
+use crate::asked::Asked;
 use hourly_load::number;
 use std::alloc::Global;
 use std::marker::Model;
 use wasp_fixed::OutOfMemory;
-use wasp_session::Command;
 
 /// The points that a word and a number behind it ask for: `hours`, and from 2 to 64.
 fn points_behind(word: &str, points: &str) -> Option<u64>
@@ -18,6 +18,32 @@ fn points_behind(word: &str, points: &str) -> Option<u64>
     }
     match number(points.as_bytes()) {
         Some(points) if (2..=64).contains(&points) => Some(points),
+        _ => None,
+    }
+}
+
+/// What one word asks for.
+fn asked_alone(word: &str) -> Option<Asked>
+    ensures value { result ≡ spec.asked_alone word.now }
+    ensures range { IfSome result (λ asked. spec.used asked ≡ 1) }
+{
+    match word {
+        "plan" => Some(Asked::Plan(1)),
+        "check" => Some(Asked::Check),
+        _ => None,
+    }
+}
+
+/// What three words ask for: `plan --workers N`.
+fn asked_of_three(word: &str, option: &str, workers: &str) -> Option<Asked>
+    ensures value { result ≡ spec.asked_of_three word.now option.now workers.now }
+    ensures range { IfSome result (λ asked. (1 ≤ spec.used asked) × (spec.used asked ≤ 64)) }
+{
+    if word != "plan" || option != "--workers" {
+        return None;
+    }
+    match number(workers.as_bytes()) {
+        Some(workers) if (1..=64).contains(&workers) => Some(Asked::Plan(workers as usize)),
         _ => None,
     }
 }
@@ -58,16 +84,18 @@ impl CommandWords {
         Ok(())
     }
 
-    /// The command that they ask for: the one word `plan`, or `check`.
-    pub(crate) fn command(&self) -> Option<Command>
-        ensures { result ≡ spec.asked self.now }
+    /// What they ask for of a script: `plan`, `plan --workers N` with N from 1 to 64, or `check`.
+    pub(crate) fn asked(&self) -> Option<Asked>
+        ensures value { result ≡ spec.asked_by self.now }
+        ensures range { IfSome result (λ asked. (1 ≤ spec.used asked) × (spec.used asked ≤ 64)) }
     {
-        if self.words.len() != 1 {
-            return None;
-        }
-        match self.words[0].as_str() {
-            "plan" => Some(Command::Plan),
-            "check" => Some(Command::Check),
+        match self.words.len() {
+            1 => asked_alone(self.words[0].as_str()),
+            3 => asked_of_three(
+                self.words[0].as_str(),
+                self.words[1].as_str(),
+                self.words[2].as_str(),
+            ),
             _ => None,
         }
     }

@@ -1,7 +1,7 @@
--- The report of a case of a deck: the table of its accepted configurations, the solution of this table, and the
+-- The report of a case of a deck under tunnels: the table of its accepted configurations, the solution of this table, and the
 -- years of the chosen plan with their tunnels, terms, rows and generations. After the modules MERSIM, DYNPRO and
 -- REPROBAT of the IAEA's Computer Manual Series No. 16.
-use Rattle.std.specs.Prelude.{◌≡◌, ◌==◌, ℕ, ◌+◌, ◌-◌, ◌<◌, List, [], ◌∷◌, length, map, filter, nat_lt, Option, None, slice_index, slice_index_or, if◌then◌else◌}
+use Rattle.std.specs.Prelude.{◌≡◌, ◌==◌, ℕ, ◌+◌, ◌-◌, ◌<◌, List, [], ◌∷◌, length, map, nat_lt, Option, None, slice_index, slice_index_or, if◌then◌else◌}
 use Rattle.std.specs.List.{filter_map, range_with_len}
 use Rattle.std.specs.Option.{option_map}
 use Rattle.cost_terms.specs.Cost.{build, fuel, nothing_built, salvage, stock, unserved, upkeep}
@@ -13,21 +13,20 @@ use Rattle.cost_terms.specs.Table.{Table}
 use Rattle.checked_deck.specs.Economy.{costs}
 use Rattle.checked_deck.specs.Systems.{system}
 use Rattle.deck_check.specs.Readings.{Says, greatest, version, weights, years}
-use Rattle.checked_deck.specs.TypedDeck.{limit, name_of, tunnel}
+use Rattle.checked_deck.specs.TypedDeck.{limit, name_of}
 use Rattle.checked_deck.specs.declared.names.PlantId.{PlantId}
 use Rattle.checked_deck.specs.declared.names.PlantId.TheVariants as ids
 use Rattle.plan_program.specs.Chosen.{IsSolution}
 use Rattle.plan_program.specs.Plans.{layer_at}
 use Rattle.plant_data.specs.declared.plant.Plant.{Plant}
-use Rattle.plant_data.specs.declared.row.Limit.{Limit}
 use Rattle.report_text.specs.Report.{plan_of}
 use Rattle.report_text.specs.declared.data.CaseReport.{CaseReport}
 use Rattle.report_text.specs.declared.data.Generation.{Generation}
 use Rattle.report_text.specs.declared.data.PlanYear.{PlanYear}
+use Rattle.row_shelf.specs.Tables.{accepted_of}
 use Rattle.sim_engine.specs.Generation.{generations}
 use Rattle.sim_engine.specs.Row.{row_of}
-use Rattle.sim_sweep.specs.Cases.{is_accepted}
-use Rattle.wasp_session.specs.Listings.{IsListingOf}
+use Rattle.wasp_session.specs.Listings.{IsListingOf, Tunnels, tunnel_at}
 use Rattle.year_system.specs.Capacity.{no_group}
 use Rattle.year_system.specs.System.{System}
 
@@ -37,21 +36,17 @@ no_plant = record { number = 0; units = 0; least = 0; full = 0; heat = 0; inc = 
 
 -- ---- the table
 
--- the accepted ones of some configurations of a system, each with its row, in their order
-abbrev pub accepted_of : System → Limit → List (List ℕ) → List Scored
-accepted_of s l configs = filter (λ e. is_accepted e.row l) (map (λ x. record { config = x; row = row_of s x }) configs)
-
 -- the accepted ones of the configurations that are listed for a case and year
-pub record IsLayerOf (d : Says) (c t : ℕ) (layer : List Scored) : Type 0 where
+pub record IsLayerOf (d : Says) (c t : ℕ) (tunnels : Tunnels) (layer : List Scored) : Type 0 where
   pub configs : List (List ℕ)
-  pub listing : IsListingOf d c t configs
+  pub listing : IsListingOf d c t (tunnel_at tunnels t) configs
   pub is : layer ≡ accepted_of (system d t) (limit d c t) configs
 
 -- the economy of the deck with the layers of the case
-pub record IsTableOf (d : Says) (c : ℕ) (table : Table) : Type 0 where
+pub record IsTableOf (d : Says) (c : ℕ) (tunnels : Tunnels) (table : Table) : Type 0 where
   pub economy : table.economy ≡ costs d
   pub many : length table.layers ≡ years d
-  pub layers : (k : ℕ) → k < years d → IsLayerOf d c (k + 1) (layer_at table k)
+  pub layers : (k : ℕ) → k < years d → IsLayerOf d c (k + 1) tunnels (layer_at table k)
 
 -- ---- what a planned year generates
 
@@ -94,17 +89,17 @@ abbrev pub ran_of : CostData → ℕ → PlanYear → Ran
 ran_of c t y = record { fuel = fuel c t y.row; upkeep = upkeep c t y.config y.row; unserved = unserved c t y.row }
 
 -- a planned year, behind the configuration of the year before
-pub record IsYearOf (d : Says) (c t : ℕ) (before : List ℕ) (y : PlanYear) : Type 0 where
-  pub tunnel : y.tunnel ≡ tunnel d c t
+pub record IsYearOf (d : Says) (t : ℕ) (tunnels : Tunnels) (before : List ℕ) (y : PlanYear) : Type 0 where
+  pub tunnel : y.tunnel ≡ tunnel_at tunnels t
   pub built : y.built ≡ built_of (costs d) t before y.config
   pub ran : y.ran ≡ ran_of (costs d) t y
   pub row : y.row ≡ row_of (system d t) y.config
   pub generations : y.generations ≡ generations_of d t y.config
 
 -- the years from year t on
-abbrev pub AreYearsFrom : Says → ℕ → ℕ → List ℕ → List PlanYear → Type 0
-AreYearsFrom d c t before [] = Unit {0}
-AreYearsFrom d c t before (y ∷ ys) = IsYearOf d c t before y × AreYearsFrom d c (t + 1) y.config ys
+abbrev pub AreYearsFrom : Says → ℕ → Tunnels → List ℕ → List PlanYear → Type 0
+AreYearsFrom d t tunnels before [] = Unit {0}
+AreYearsFrom d t tunnels before (y ∷ ys) = IsYearOf d t tunnels before y × AreYearsFrom d (t + 1) tunnels y.config ys
 
 -- ---- the report
 
@@ -112,16 +107,10 @@ AreYearsFrom d c t before (y ∷ ys) = IsYearOf d c t before y × AreYearsFrom d
 abbrev pub conditions_of : Says → ℕ
 conditions_of d = if version d == 1 then 0 else length (weights d)
 
-pub record IsReportOf (d : Says) (c : ℕ) (report : CaseReport) : Type 0 where
+pub record IsReportOf (d : Says) (c : ℕ) (tunnels : Tunnels) (report : CaseReport) : Type 0 where
   pub conditions : report.conditions ≡ conditions_of d
   pub greatest : report.greatest ≡ greatest d
-  pub table : IsTableOf d c report.table
+  pub table : IsTableOf d c tunnels report.table
   pub solution : IsSolution report.table report.solved
   pub plan : map (λ y. y.config) report.years ≡ plan_of report.solved.outcome
-  pub years : AreYearsFrom d c 1 (nothing_built (costs d)) report.years
-
--- a text, how many CHOSEN lines it has, and how many times a check says NO in it
-pub record Told : Type 0 where
-  pub text : List ℕ
-  pub chosen : ℕ
-  pub nos : ℕ
+  pub years : AreYearsFrom d 1 tunnels (nothing_built (costs d)) report.years

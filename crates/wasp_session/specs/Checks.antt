@@ -15,7 +15,7 @@ use Rattle.report_text.specs.declared.refusals.Refusal.TheVariants.{Deck, Wide, 
 use Rattle.report_text.specs.declared.verdicts.Judged.{Judged}
 use Rattle.report_text.specs.declared.verdicts.Judged.TheVariants.{Refused, Form, Said}
 use Rattle.wasp_session.specs.Case.{IsTableOf}
-use Rattle.wasp_session.specs.Listings.{IsOverIn, IsWithin}
+use Rattle.wasp_session.specs.Listings.{AreWithin, IsOverIn, deck_tunnels}
 
 -- ---- the open CHECK, looking back over the lines, the last line first
 
@@ -70,20 +70,16 @@ pub record IsInForm (d : Says) (o : Open) : Type 0 where
 
 -- ---- what is said
 
--- each year of the case is within the limits on its configurations
-abbrev pub AreWithin : Says → ℕ → Type 0
-AreWithin d c = (t : ℕ) → 1 ≤ t → t ≤ years d → IsWithin d c t
-
 -- it is neither refused nor failed in its form
 pub record IsChecked (d : Says) (o : Open) : Type 0 where
   pub faultless : HasNoFault d
   pub in_form : IsInForm d o
-  pub within : AreWithin d o.case
+  pub within : AreWithin d o.case (deck_tunnels d o.case)
 
 -- the certificate that the lines say is judged against the table of the case
 pub record IsVerdictOf (d : Says) (o : Open) (verdict : Verdict) : Type 0 where
   pub table : Table
-  pub is_table : IsTableOf d o.case table
+  pub is_table : IsTableOf d o.case (deck_tunnels d o.case) table
   pub certificate : CertData
   pub is_said : IsSaidBy (years d) (length (greatest d)) o.certificate certificate
   pub is_verdict : IsVerdict table certificate verdict
@@ -92,9 +88,10 @@ pub record IsVerdictOf (d : Says) (o : Open) (verdict : Verdict) : Type 0 where
 abbrev pub IsJudged : Says → Open → Judged → Type 0
 IsJudged d o (Refused (Deck fault)) = IsFaultOf d fault
 IsJudged d o (Form i) = HasNoFault d × IsFormFaultOf d o i
-IsJudged d o (Refused (Wide case year n)) = HasNoFault d × IsInForm d o × IsOverIn d o.case (Wide case year n)
-IsJudged d o (Refused (Many case year n)) = HasNoFault d × IsInForm d o × IsOverIn d o.case (Many case year n)
-IsJudged d o (Said verdict) = HasNoFault d × IsInForm d o × AreWithin d o.case × IsVerdictOf d o verdict
+IsJudged d o (Refused (Wide c t n)) = HasNoFault d × IsInForm d o × IsOverIn d o.case (deck_tunnels d o.case) (Wide c t n)
+IsJudged d o (Refused (Many c t n)) = HasNoFault d × IsInForm d o × IsOverIn d o.case (deck_tunnels d o.case) (Many c t n)
+IsJudged d o (Said verdict) =
+    HasNoFault d × IsInForm d o × AreWithin d o.case (deck_tunnels d o.case) × IsVerdictOf d o verdict
 
 -- one NO, or none; a refused check is no NO
 abbrev pub nos_of : Judged → ℕ

@@ -1,6 +1,8 @@
 pub mod Accepted
 pub mod Case
 pub mod Checks
+pub mod Follows
+pub mod Inner
 pub mod Keys
 pub mod Listings
 pub mod Modes
@@ -8,3 +10,6 @@ pub mod Oneness
 pub mod Said
 pub mod State
 pub mod Steps
+pub mod Studies
+pub mod Tasks
+pub mod Told

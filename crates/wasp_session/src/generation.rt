@@ -8,12 +8,15 @@ ghost use Rattle.report_text.specs.ReadBack.{IsPrintableGeneration};
 ghost use Rattle.sim_engine.specs.Engine.{counted};
 ghost use Rattle.sim_engine.specs.Generation.{generations};
 ghost use Rattle.wasp_session.specs.Case.{generation_at, generation_of, generations_of, generator_at, standing_at};
-ghost use Rattle.wasp_session.specs.Steps.{OnlyDetails};
-ghost use Rattle.year_system.specs.System.{Fits, cells, unit_limit};
+ghost use Rattle.wasp_session.specs.Inner.{HaveDetailed, OnlyDetails};
+ghost use Rattle.wasp_session.specs.Studies.{IsOn};
+ghost use Rattle.year_system.specs.System.{Fits};
 
+use crate::study::Study;
 use checked_deck::{PlantId, TypedDeck};
 use plant_data::{Config, Listed};
 use report_text::{Generation, Generations};
+use row_shelf::Shelf;
 use sim_engine::SimEngine;
 use std::alloc::Global;
 use wasp_fixed::OutOfMemory;
@@ -91,27 +94,28 @@ fn name_generations(
     Ok(Listed::new(generations))
 }
 
-/// What a configuration generates in a year, by a run of an engine with room for it.
+/// What a configuration generates in the year of a place, counted from 0, by a run of an engine.
 pub(crate) fn year_generations<E: SimEngine>(
     alloc: Global,
-    typed: &TypedDeck,
-    system: &YearSystem,
-    year: u64,
+    study: &Study,
+    shelf: &Shelf,
+    place: usize,
     config: &Config,
     engine: &mut E,
 ) -> Result<Generations, OutOfMemory>
-    requires system { system.now ≡ systems.system (body_of typed.now) year }
-    requires fits { Fits system.now config.now }
-    requires cells { cells system.now ≤ (E.room engine.old).cells }
-    requires units { unit_limit system.now ≤ (E.room engine.old).units }
-    ensures value { IfOk result (λ gs. gs ≡ generations_of (body_of typed.now) year config.now) }
+    requires on { IsOn shelf.now study.now }
+    requires place { place < says.years (body_of study.now.deck) }
+    requires fits { Fits (systems.system (body_of study.now.deck) (place + 1)) config.now }
+    ensures value { IfOk result (λ gs. gs ≡ generations_of (body_of study.now.deck) (place + 1) config.now) }
     ensures printable { IfOk result (λ gs. All IsPrintableGeneration gs) }
     ensures detailed { OnOk result ((E.work engine.new).detailed ≡ counted (E.work engine.old).detailed) }
-    ensures room { E.room engine.new ≡ E.room engine.old }
     ensures work { OnlyDetails (E.work engine.old) (E.work engine.new) }
+    ensures gone { HaveDetailed (E.work engine.old ∷ []) (E.work engine.new ∷ []) }
 {
+    let system = shelf.system(study.ids()[place]);
     let count = system.existing().len() + system.thermal().len() + system.groups().len();
     let mut energies = vec![in alloc; 0u64; count]?;
+    engine.ready(system.cells(), system.unit_limit())?;
     engine.detail(system, config, energies.as_mut_slice());
-    name_generations(alloc, typed, system, config, &energies)
+    name_generations(alloc, study.typed(), system, config, &energies)
 }

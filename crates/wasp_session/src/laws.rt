@@ -6,14 +6,14 @@ ghost use Rattle.wasp_session.specs.Oneness.{
   ReportsAreOne,
   TellingOfAFront,
   TellingsAreOne,
+  TellingsGoOn,
 };
-ghost use Rattle.wasp_session.specs.Said.{TellingGoesOn};
 
 use tunnel_configs::listings_are_one;
 
 /// What is told of a line comes behind what was told of the lines before it.
 pub fn telling_goes_on()
-    ensures { TellingGoesOn }
+    ensures { TellingsGoOn }
 {}
 
 /// A deck is refused for one reason, and for none where a PLAN on it is taken.

@@ -11,20 +11,20 @@
 //! that was in want of memory answers `OutOfMemory` from then on.
 #![tactic(auto)]
 
+mod answer;
 mod checking;
 mod command;
-mod demands;
 mod generation;
-mod interning;
 mod laws;
 mod listing;
-mod neighbours;
+mod memory;
 mod opened;
 mod plan;
 mod planned;
 mod report;
 mod session;
 mod settling;
+mod study;
 
 pub use command::{Command, Step};
 pub use laws::{

@@ -1,9 +1,10 @@
 //! The years of a chosen plan.
-ghost use Rattle.std.specs.Prelude.{◌≡◌, ℕ, ◌≤◌, List, length, All, IfOk, OnOk, map};
+ghost use Rattle.std.specs.Prelude.{◌≡◌, ℕ, ◌+◌, ◌<◌, ◌≤◌, [], ◌∷◌, List, length, All, IfOk, OnOk, map};
 ghost use Rattle.cost_terms.specs.Cost.{nothing_built};
 ghost use Rattle.cost_terms.specs.CostData.{Fits, greatest as candidate_counts};
 ghost use Rattle.cost_terms.specs.Table.{IsEntry};
 ghost use Rattle.checked_deck.specs.Economy.{costs};
+ghost use Rattle.checked_deck.specs.Systems as systems;
 ghost use Rattle.deck_check.specs.Readings as says;
 ghost use Rattle.deck_lines.specs.Deck.{body_of};
 ghost use Rattle.plan_program.specs.Chosen.{IsPlanOf};
@@ -13,23 +14,23 @@ ghost use Rattle.report_text.specs.Report.{HasWidths};
 ghost use Rattle.sim_engine.specs.Engine.{counted, raised};
 ghost use Rattle.sim_engine.specs.Row.{row_of};
 ghost use Rattle.wasp_session.specs.Case.{AreYearsFrom, IsTableOf, IsYearOf};
-ghost use Rattle.wasp_session.specs.Listings.{IsOf};
-ghost use Rattle.wasp_session.specs.Steps.{HasPlace, HasRoom, HasYearRoom, HasYears, IsPlaced, IsYearSystem, OnlyDetails};
+ghost use Rattle.wasp_session.specs.Inner.{HasPlace, HaveDetailed, IsPlacedAt, OnlyDetails};
+ghost use Rattle.wasp_session.specs.Studies.{IsOn};
 
 use crate::generation::year_generations;
-use checked_deck::TypedDeck;
+use crate::study::Study;
 use cost_terms::{CaseTable, Economy, Scored, build_cost, run_cost};
 use plant_data::{Config, Listed};
 use report_text::PlanYear;
+use row_shelf::Shelf;
 use sim_engine::SimEngine;
 use std::alloc::Global;
 use wasp_fixed::OutOfMemory;
-use year_system::{Book, YearSystem};
 
 /// The entry of a configuration, which a layer has.
 fn entry_in(layer: &[Scored], config: &Config) -> Scored
     requires { HasPlace layer.now config.now }
-    ensures { IsPlaced layer.now config.now result }
+    ensures { IsPlacedAt layer.now config.now result }
 {
     for entry in layer {
         if entry.config == *config {
@@ -39,71 +40,72 @@ fn entry_in(layer: &[Scored], config: &Config) -> Scored
     unreachable!()
 }
 
-/// A planned year, behind the configuration of the year before.
+/// A step of a plan: the configuration of the year before, and the entry of the year.
+#[derive(Drop)]
+struct PlanStep<'a> {
+    economy: &'a Economy,
+    before: &'a Config,
+    entry: &'a Scored,
+}
+
+/// The planned year of a place, counted from 0.
 fn plan_year<E: SimEngine>(
     alloc: Global,
-    typed: &TypedDeck,
-    economy: &Economy,
-    system: &YearSystem,
-    case: u64,
-    year: u64,
-    before: &Config,
-    entry: &Scored,
+    study: &Study,
+    shelf: &Shelf,
+    place: usize,
+    step: PlanStep,
     engine: &mut E,
 ) -> Result<PlanYear, OutOfMemory>
-    requires is_of { IsOf (body_of typed.now) case year }
-    requires economy { economy.now ≡ costs (body_of typed.now) }
-    requires years { year ≤ economy.now.years }
-    requires system { IsYearSystem (body_of typed.now) year system.now }
-    requires width { candidate_counts economy.now ≡ says.greatest (body_of typed.now) }
-    requires before { Fits economy.now before.now }
-    requires entry { IsEntry economy.now entry.now }
-    requires grows { IsAtMost before.now entry.now.config }
-    requires row { entry.now.row ≡ row_of system.now entry.now.config }
-    requires room { HasRoom (E.room engine.old).cells (E.room engine.old).units system.now }
-    ensures year { IfOk result (λ y. IsYearOf (body_of typed.now) case year before.now y) }
-    ensures config { IfOk result (λ y. y.config ≡ entry.now.config) }
-    ensures widths { IfOk result (λ y. HasWidths (says.greatest (body_of typed.now)) y) }
+    requires on { IsOn shelf.now study.now }
+    requires place { place < says.years (body_of study.now.deck) }
+    requires economy { step.economy.now ≡ costs (body_of study.now.deck) }
+    requires years { place < step.economy.now.years }
+    requires width { candidate_counts step.economy.now ≡ says.greatest (body_of study.now.deck) }
+    requires before { Fits step.economy.now step.before.now }
+    requires entry { IsEntry step.economy.now step.entry.now }
+    requires grows { IsAtMost step.before.now step.entry.now.config }
+    requires row { step.entry.now.row ≡ row_of (systems.system (body_of study.now.deck) (place + 1)) step.entry.now.config }
+    ensures year { IfOk result (λ y. IsYearOf (body_of study.now.deck) (place + 1) study.now.tunnels step.before.now y) }
+    ensures config { IfOk result (λ y. y.config ≡ step.entry.now.config) }
+    ensures widths { IfOk result (λ y. HasWidths (says.greatest (body_of study.now.deck)) y) }
     ensures printable { IfOk result (λ y. IsPrintableYear y) }
     ensures detailed { OnOk result ((E.work engine.new).detailed ≡ counted (E.work engine.old).detailed) }
-    ensures room { E.room engine.new ≡ E.room engine.old }
     ensures work { OnlyDetails (E.work engine.old) (E.work engine.new) }
+    ensures gone { HaveDetailed (E.work engine.old ∷ []) (E.work engine.new ∷ []) }
 {
+    let year = place as u64 + 1;
+    let entry = step.entry;
     Ok(PlanYear {
         config: entry.config,
-        tunnel: typed.tunnel(case, year),
-        built: build_cost(economy, year, before, &entry.config),
-        ran: run_cost(economy, year, &entry.config, &entry.row),
+        tunnel: study.tunnels()[place],
+        built: build_cost(step.economy, year, step.before, &entry.config),
+        ran: run_cost(step.economy, year, &entry.config, &entry.row),
         row: entry.row,
-        generations: year_generations(alloc, typed, system, year, &entry.config, engine)?,
+        generations: year_generations(alloc, study, shelf, place, &entry.config, engine)?,
     })
 }
 
 /// The years of the plan of a case's table.
 pub(crate) fn plan_years<E: SimEngine>(
     alloc: Global,
-    typed: &TypedDeck,
-    book: &Book,
-    ids: &[u64],
-    case: u64,
+    study: &Study,
+    shelf: &Shelf,
     table: &CaseTable,
     configs: &[Config],
     engine: &mut E,
 ) -> Result<Listed<PlanYear>, OutOfMemory>
-    requires low { 1 ≤ case }
-    requires high { case ≤ says.cases (body_of typed.now) }
-    requires numbers { HasYears (body_of typed.now) book.now ids.now }
-    requires table { IsTableOf (body_of typed.now) case table.now }
-    requires width { candidate_counts table.now.economy ≡ says.greatest (body_of typed.now) }
+    requires on { IsOn shelf.now study.now }
+    requires table { IsTableOf (body_of study.now.deck) study.now.case study.now.tunnels table.now }
+    requires width { candidate_counts table.now.economy ≡ says.greatest (body_of study.now.deck) }
     requires chosen { (total : ℕ) × IsPlanOf table.now configs.now total }
-    requires room { HasYearRoom (body_of typed.now) (E.room engine.old) }
-    ensures years { IfOk result (λ ys. AreYearsFrom (body_of typed.now) case 1 (nothing_built (costs (body_of typed.now))) ys) }
+    ensures years { IfOk result (λ ys. AreYearsFrom (body_of study.now.deck) 1 study.now.tunnels (nothing_built (costs (body_of study.now.deck))) ys) }
     ensures configs { IfOk result (λ ys. map (λ y. y.config) ys ≡ configs.now) }
-    ensures widths { IfOk result (λ ys. All (HasWidths (says.greatest (body_of typed.now))) ys) }
+    ensures widths { IfOk result (λ ys. All (HasWidths (says.greatest (body_of study.now.deck))) ys) }
     ensures printable { IfOk result (λ ys. All IsPrintableYear ys) }
     ensures detailed { OnOk result ((E.work engine.new).detailed ≡ raised (length configs.now) (E.work engine.old).detailed) }
-    ensures room { E.room engine.new ≡ E.room engine.old }
     ensures work { OnlyDetails (E.work engine.old) (E.work engine.new) }
+    ensures gone { HaveDetailed (E.work engine.old ∷ []) (E.work engine.new ∷ []) }
 {
     let economy = table.economy();
     let layers = table.layers();
@@ -111,18 +113,12 @@ pub(crate) fn plan_years<E: SimEngine>(
     let mut years = Vec::new(alloc);
     for k in 0..configs.len() {
         let entry = entry_in(layers[k].entries(), &configs[k]);
-        let system = book.get(ids[k]);
-        years.push(plan_year(
-            alloc,
-            typed,
+        let step = PlanStep {
             economy,
-            system,
-            case,
-            k as u64 + 1,
-            &before,
-            &entry,
-            engine,
-        )?)?;
+            before: &before,
+            entry: &entry,
+        };
+        years.push(plan_year(alloc, study, shelf, k, step, engine)?)?;
         before = configs[k];
     }
     Ok(Listed::new(years))

@@ -1,5 +1,5 @@
 //! The report of a settled case.
-ghost use Rattle.std.specs.Prelude.{◌≡◌, ◌≤◌, All, IfOk, length, map};
+ghost use Rattle.std.specs.Prelude.{◌≡◌, ◌≤◌, [], ◌∷◌, All, IfOk, length, map};
 ghost use Rattle.cost_terms.specs.Cost.{nothing_built};
 ghost use Rattle.cost_terms.specs.CostData.{greatest as candidate_counts};
 ghost use Rattle.cost_terms.specs.Table.{IsTable};
@@ -11,20 +11,22 @@ ghost use Rattle.report_text.specs.ReadBack.{IsPrintable, IsPrintableYear};
 ghost use Rattle.report_text.specs.Report.{HasWidths, IsCaseReport, plan_of};
 ghost use Rattle.sim_engine.specs.Engine.{raised};
 ghost use Rattle.wasp_session.specs.Case.{AreYearsFrom, IsReportOf, IsTableOf, conditions_of};
-ghost use Rattle.wasp_session.specs.Steps.{HasYearRoom, HasYears, OnlyDetails};
+ghost use Rattle.wasp_session.specs.Inner.{HaveDetailed, OnlyDetails};
+ghost use Rattle.wasp_session.specs.Studies.{IsOn};
 ghost use Rattle.year_system.specs.System.{greatest};
 
 use crate::planned::plan_years;
-use checked_deck::TypedDeck;
+use crate::study::Study;
 use cost_terms::{CaseTable, Economy};
 use plan_program::Outcome;
 use plant_data::{Config, Listed};
 use report_text::{CaseReport, PlanYear};
+use row_shelf::Shelf;
 use sim_engine::SimEngine;
 use sim_sweep::CaseDone;
 use std::alloc::Global;
 use wasp_fixed::OutOfMemory;
-use year_system::{Book, YearSystem};
+use year_system::YearSystem;
 
 /// The greatest counts of a system's candidates.
 fn greatest_of(system: &YearSystem) -> Config
@@ -53,41 +55,27 @@ fn conditions_of(economy: &Economy) -> u64
 /// The years of the plan, where there is one.
 fn years_of<E: SimEngine>(
     alloc: Global,
-    typed: &TypedDeck,
-    book: &Book,
-    ids: &[u64],
-    case: u64,
+    study: &Study,
+    shelf: &Shelf,
     table: &CaseTable,
     outcome: &Outcome,
     engine: &mut E,
 ) -> Result<Listed<PlanYear>, OutOfMemory>
-    requires low { 1 ≤ case }
-    requires high { case ≤ says.cases (body_of typed.now) }
-    requires numbers { HasYears (body_of typed.now) book.now ids.now }
-    requires table { IsTableOf (body_of typed.now) case table.now }
-    requires width { candidate_counts table.now.economy ≡ says.greatest (body_of typed.now) }
+    requires on { IsOn shelf.now study.now }
+    requires table { IsTableOf (body_of study.now.deck) study.now.case study.now.tunnels table.now }
+    requires width { candidate_counts table.now.economy ≡ says.greatest (body_of study.now.deck) }
     requires outcome { IsOutcome table.now outcome.now }
-    requires room { HasYearRoom (body_of typed.now) (E.room engine.old) }
-    ensures years { IfOk result (λ ys. AreYearsFrom (body_of typed.now) case 1 (nothing_built (costs (body_of typed.now))) ys) }
+    ensures years { IfOk result (λ ys. AreYearsFrom (body_of study.now.deck) 1 study.now.tunnels (nothing_built (costs (body_of study.now.deck))) ys) }
     ensures plan { IfOk result (λ ys. map (λ y. y.config) ys ≡ plan_of outcome.now) }
-    ensures widths { IfOk result (λ ys. All (HasWidths (says.greatest (body_of typed.now))) ys) }
+    ensures widths { IfOk result (λ ys. All (HasWidths (says.greatest (body_of study.now.deck))) ys) }
     ensures printable { IfOk result (λ ys. All IsPrintableYear ys) }
     ensures detailed { IfOk result (λ ys. (E.work engine.new).detailed ≡ raised (length ys) (E.work engine.old).detailed) }
-    ensures room { E.room engine.new ≡ E.room engine.old }
     ensures work { OnlyDetails (E.work engine.old) (E.work engine.new) }
+    ensures gone { HaveDetailed (E.work engine.old ∷ []) (E.work engine.new ∷ []) }
 {
     match outcome {
         Outcome::Plan { configs, .. } => {
-            plan_years(
-                alloc,
-                typed,
-                book,
-                ids,
-                case,
-                table,
-                configs.as_slice(),
-                engine,
-            )
+            plan_years(alloc, study, shelf, table, configs.as_slice(), engine)
         }
         Outcome::Infeasible(_) => Ok(Listed::new(Vec::new(alloc))),
     }
@@ -96,42 +84,28 @@ fn years_of<E: SimEngine>(
 /// The report of a settled case.
 pub(crate) fn report_case<E: SimEngine>(
     alloc: Global,
-    typed: &TypedDeck,
-    book: &Book,
-    ids: &[u64],
-    case: u64,
+    study: &Study,
+    shelf: &Shelf,
     done: CaseDone,
     engine: &mut E,
 ) -> Result<CaseReport, OutOfMemory>
-    requires low { 1 ≤ case }
-    requires high { case ≤ says.cases (body_of typed.now) }
-    requires numbers { HasYears (body_of typed.now) book.now ids.now }
-    requires table { IsTableOf (body_of typed.now) case done.table }
-    requires width { candidate_counts done.table.economy ≡ says.greatest (body_of typed.now) }
+    requires on { IsOn shelf.now study.now }
+    requires table { IsTableOf (body_of study.now.deck) study.now.case study.now.tunnels done.table }
+    requires width { candidate_counts done.table.economy ≡ says.greatest (body_of study.now.deck) }
     requires solution { IsSolution done.table done.solved }
-    requires room { HasYearRoom (body_of typed.now) (E.room engine.old) }
-    ensures report { IfOk result (λ report. IsReportOf (body_of typed.now) case report) }
+    ensures report { IfOk result (λ report. IsReportOf (body_of study.now.deck) study.now.case study.now.tunnels report) }
     ensures in_form { IfOk result (λ report. IsCaseReport report) }
     ensures table { IfOk result (λ report. IsTable report.table) }
-    ensures printable { IfOk result (λ report. IsPrintable case report) }
+    ensures printable { IfOk result (λ report. IsPrintable study.now.case report) }
     ensures detailed { IfOk result (λ report. (E.work engine.new).detailed ≡ raised (length report.years) (E.work engine.old).detailed) }
-    ensures room { E.room engine.new ≡ E.room engine.old }
     ensures work { OnlyDetails (E.work engine.old) (E.work engine.new) }
+    ensures gone { HaveDetailed (E.work engine.old ∷ []) (E.work engine.new ∷ []) }
 {
     // Its reading tells the proof that there is a year.
-    let _years = typed.years();
+    let _years = study.typed().years();
     let (table, solved) = done.into_parts();
-    let years = years_of(
-        alloc,
-        typed,
-        book,
-        ids,
-        case,
-        &table,
-        &solved.outcome,
-        engine,
-    )?;
-    let greatest = greatest_of(book.get(ids[0]));
+    let years = years_of(alloc, study, shelf, &table, &solved.outcome, engine)?;
+    let greatest = greatest_of(shelf.system(study.ids()[0]));
     let conditions = conditions_of(table.economy());
     Ok(CaseReport {
         years,

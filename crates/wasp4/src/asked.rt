@@ -1,0 +1,36 @@
+//! What a run is asked for.
+ghost use Rattle.std.specs.Prelude.{◌≡◌};
+ghost use Rattle.wasp4.specs.Out as spec;
+
+use wasp_session::Command;
+
+/// What a run is asked for, of a script.
+#[derive(Clone, Copy, Debug, PartialEq, Eq)]
+pub enum Asked {
+    /// To plan by the first so many engines.
+    Plan(usize),
+    /// To check certificates, by the first engine.
+    Check,
+}
+
+impl Asked {
+    /// The command.
+    pub(crate) fn command(self) -> Command
+        ensures { result ≡ spec.command_of self }
+    {
+        match self {
+            Asked::Plan(_) => Command::Plan,
+            Asked::Check => Command::Check,
+        }
+    }
+
+    /// How many engines work.
+    pub(crate) fn engines(self) -> usize
+        ensures { result ≡ spec.used self }
+    {
+        match self {
+            Asked::Plan(engines) => engines,
+            Asked::Check => 1,
+        }
+    }
+}

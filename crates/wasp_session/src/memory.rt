@@ -1,0 +1,93 @@
+//! The memory of a session.
+ghost use Rattle.std.specs.Prelude.{◌≡◌, ◌≤◌, All, IfOk, OnErr, OnOk, length};
+ghost use Rattle.deck_lines.specs.Deck.{body_of};
+ghost use Rattle.row_shelf.specs.Shelf.{IsShelf};
+ghost use Rattle.wasp_session.specs.Inner.{FitYears, IsOfLists};
+ghost use Rattle.wasp_session.specs.State.{no_memory};
+ghost use Rattle.wasp_session.specs.Steps.{HasPlaceFor, IsLost, Learns};
+ghost use Rattle.wasp_session.specs.Studies.{AreSystems, HasYears};
+
+use checked_deck::TypedDeck;
+use row_shelf::{CaseLists, Shelf};
+use sim_engine::SimEngine;
+use sim_sweep::Tally;
+use std::alloc::Global;
+use std::marker::Model;
+use std::thread::Threads;
+use wasp_fixed::OutOfMemory;
+use year_system::YearSystem;
+
+/// The systems and the rows of a run, and how many rows sweeps have filled.
+#[derive(Drop)]
+pub(crate) struct Memory {
+    shelf: Shelf,
+    tally: Tally,
+}
+
+impl Model for Memory {
+    ghost use Rattle.row_shelf.specs.Shelf.{IsShelf};
+    ghost use Rattle.wasp_session.specs.State.{MemoryIs};
+
+    ghost Value = { MemoryIs };
+
+    ghost view = { λ m. record { shelf = m.shelf; tally = m.tally } };
+
+    ghost invariant = { λ m. IsShelf m.shelf };
+}
+
+impl Memory {
+    /// Without a system or a row. It takes no memory.
+    pub(crate) fn empty(alloc: Global) -> Memory
+        ensures { result ≡ no_memory }
+    {
+        Memory {
+            shelf: Shelf::new(alloc),
+            tally: Tally::new(),
+        }
+    }
+
+    /// The systems and the rows.
+    pub(crate) fn shelf(&self) -> &Shelf
+        ensures value { result.now ≡ self.now.shelf }
+        ensures valid { IsShelf self.now.shelf }
+    {
+        &self.shelf
+    }
+
+    /// How many rows sweeps have filled.
+    pub(crate) fn into_tally(self) -> Tally
+        ensures { result ≡ self.tally }
+    {
+        let Memory { tally, .. } = self;
+        tally
+    }
+
+    /// Gives the systems of a deck's years numbers, and has the rows of the listed keys: the engines simulate those that
+    /// are new, each once.
+    pub(crate) fn learn<E: SimEngine, R: Threads + Sync>(
+        &mut self,
+        rt: &R,
+        typed: &TypedDeck,
+        systems: Vec<YearSystem>,
+        cases: &[CaseLists],
+        engines: &mut [E],
+    ) -> Result<Vec<u64>, OutOfMemory>
+        requires some { 1 ≤ length engines.old }
+        requires most { length engines.old ≤ 64 }
+        requires systems { AreSystems (body_of typed.now) systems.items }
+        requires lists { All (FitYears (body_of typed.now)) cases.now }
+        requires few { length cases.now ≤ 8 }
+        requires place { HasPlaceFor 120000 self.old }
+        ensures numbers { IfOk result (λ ids. HasYears (body_of typed.now) self.new.shelf.book ids.items) }
+        ensures learns { OnOk result (Learns (Unit {0}) (IsOfLists (body_of typed.now) cases.now) (body_of typed.now)
+            self.old self.new E.work engines.old engines.new 0) }
+        ensures err { OnErr result (IsLost (Unit {0}) (IsOfLists (body_of typed.now) cases.now) (body_of typed.now)
+            self.old self.new E.work engines.old engines.new) }
+    {
+        // Its reading tells the proof that there are at most 30 years.
+        let _years = typed.years();
+        let ids = self.shelf.take_in(systems)?;
+        self.shelf.fill(rt, &ids, cases, engines, &mut self.tally)?;
+        Ok(ids)
+    }
+}
