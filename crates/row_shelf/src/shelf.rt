@@ -119,6 +119,7 @@ impl Shelf {
         requires place { length self.old.kept + asked_count cases.now < 2 ^ 23 }
         ensures filled { OnOk result (FillsCases ids.now cases.now self.old self.new E.work engines.old engines.new) }
         ensures tally { OnOk result ((new : ℕ) → length self.new.kept ≡ length self.old.kept + new → tally.new ≡ raised new tally.old) }
+        ensures few { OnOk result (length self.new.kept ≤ length self.old.kept + asked_count cases.now) }
         ensures rooms { OnOk result (map E.room engines.new ≡ map (widened_for self.old.book ids.now) (map E.room engines.old)) }
         ensures book { self.new.book ≡ self.old.book }
         ensures err { OnErr result (self.new ≡ self.old) }
