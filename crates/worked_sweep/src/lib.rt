@@ -6,4 +6,6 @@
 #[cfg(test)]
 mod gas;
 #[cfg(test)]
+mod meeting;
+#[cfg(test)]
 mod sweeping;
