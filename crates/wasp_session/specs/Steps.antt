@@ -53,11 +53,11 @@ pub record IsLost {X : Type 0} (Taken : Type 0) (Asks : Run → Type 0) (d : Say
 -- ---- what a call does
 
 -- it tells something with so many NOs, and learns
-pub record Tells {X Z : Type 0} (Is : Told → Type 0) (Taken : Type 0) (Asks : Run → Type 0) (d : Says) (before now : MemoryIs) (work : X → Work) (es fs : List X) (said said_now : Vec ℕ Z) (nos : ℕ) : Type 0 where
+pub record Tells {X Z : Type 0} (Is : Told → Type 0) (Taken : Type 0) (Asks : Run → Type 0) (d : Says) (before now : MemoryIs) (work : X → Work) (es fs : List X) (said said_now : Vec ℕ Z) (count : ℕ) : Type 0 where
   pub told : Told
   pub is_told : Is told
   pub text : said_now.items ≡ said.items ++ told.text
-  pub nos : told.nos ≡ nos
+  pub nos : told.nos ≡ count
   pub learns : Learns Taken Asks d before now work es fs told.details
 
 -- and it leaves the state as said
