@@ -1,5 +1,5 @@
 //! The shelf.
-ghost use Rattle.std.specs.Prelude.{◌≡◌, ℕ, ◌+◌, ◌-◌, ◌^◌, ◌<◌, ◌≤◌, [], All, Contains, IfOk, OnErr, OnOk, length, map};
+ghost use Rattle.std.specs.Prelude.{◌≡◌, ℕ, ◌+◌, ◌-◌, ◌^◌, ◌<◌, ◌≤◌, [], All, Contains, IfOk, OnErr, OnOk, Some, length, map, slice_get};
 ghost use Rattle.cost_terms.specs.CostData.{IsEconomy};
 ghost use Rattle.plan_program.specs.Plans.{layer_at};
 ghost use Rattle.row_shelf.specs.Adds.{FillsCases};
@@ -8,9 +8,10 @@ ghost use Rattle.row_shelf.specs.Shelf.{Grows, Holds, IsShelf, no_rows};
 ghost use Rattle.row_shelf.specs.Tables.{FitEconomy, IsTableBy};
 ghost use Rattle.row_shelf.specs.Rooms.{AreWidenedFor, widened_for};
 ghost use Rattle.sim_engine.specs.Engine.{Run, raised};
+ghost use Rattle.year_system.specs.System.{IsSystem};
 ghost use Rattle.sim_sweep.specs.Works.{HaveRun};
 
-use crate::demands::{all_demands, case_demands};
+use crate::demands::{case_demands, wanted_demands};
 use crate::interning::intern_all;
 use crate::rooms::{make_ready, room_for};
 use cost_terms::{CaseTable, Economy};
@@ -74,6 +75,15 @@ impl Shelf {
         self.book.len()
     }
 
+    /// The system with a number.
+    pub fn system(&self, number: u64) -> &YearSystem
+        requires within { number < length self.now.book }
+        ensures value { slice_get self.now.book number ≡ Some result.now }
+        ensures valid { IsSystem result.now }
+    {
+        self.book.get(number)
+    }
+
     /// The numbers of year systems, in their order; new ones are added to the book. After want of memory some may
     /// have been added.
     pub fn take_in(&mut self, systems: Vec<YearSystem>) -> Result<Vec<u64>, OutOfMemory>
@@ -120,7 +130,7 @@ impl Shelf {
         // Their readings tell the proof that the systems are ones, no two the same, and that the new codes come once.
         let _systems = self.book.len();
         new_codes_come_once();
-        let demands = all_demands(self.alloc, &self.book, ids, cases)?;
+        let demands = wanted_demands(self.alloc, &self.book, &self.kept, ids, cases)?;
         let (cells, units) = room_for(&self.book, ids);
         make_ready(engines, cells, units)?;
         let filled = keep_rows(
