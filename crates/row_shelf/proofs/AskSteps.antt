@@ -100,7 +100,7 @@ length_flat f n (x ∷ xs) all =
     let more : n * suc (length xs) ≡ n + n * length xs = omega arith in
     omega (arith, one, rest, both, more)
 
-short_filter : (p : Demand → Bool) (ds : List Demand) → length (filter p ds) ≤ length ds
+pub short_filter : (p : Demand → Bool) (ds : List Demand) → length (filter p ds) ≤ length ds
 short_filter p [] = omega arith
 short_filter p (d ∷ ds) = elim (p d) as (λ b. length (cond b (d ∷ filter p ds) (filter p ds)) ≤ suc (length ds)) [
   | true ↦ omega (arith, short_filter p ds)

@@ -1,13 +1,16 @@
 -- Room for the systems with some numbers, and engines that can sweep.
-use Rattle.std.proofs.Common.{◌≡◌, ◌∙◌, sym, subst, refl, ap, inl, ℕ, zero, suc, ◌+◌, ◌<◌, ◌≤◌, List, [], ◌∷◌, All, Option, None, Some, length, map, drop, max, get_or, slice_get, arith}
-use Rattle.std.proofs.lemmas.List.Elements.{All-cons, All-head, All-nil, All-tail, All-weaker}
+use Rattle.std.proofs.Common.{◌≡◌, ◌∙◌, sym, refl, ap, inl, ℕ, zero, suc, ◌+◌, ◌<◌, ◌≤◌, List, [], ◌∷◌, All, Option, Some, length, drop, max, get_or, slice_get, arith}
+use Rattle.std.proofs.lemmas.List.Elements.{All-cons, All-nil, All-weaker}
 use Rattle.sim_engine.specs.Engine.{Room}
+use Rattle.board_core.specs.declared.row.KeptRow.{KeptRow}
+use Rattle.sim_sweep.specs.Demands.{HasRoomFor}
 use Rattle.sim_sweep.specs.Workers.{CanSweep}
 use Rattle.sim_sweep.specs.declared.demand.Demand.{Demand}
 use Rattle.row_shelf.proofs.AskSteps.{have_room}
+use Rattle.row_shelf.proofs.WantedSteps.{wanted_all}
 use Rattle.row_shelf.specs.Asked.{FitBook}
-use Rattle.row_shelf.specs.Demands.{all_demands}
-use Rattle.row_shelf.specs.Rooms.{AreWidened, HasRoom, HasRoomAt, IsRoomy, greatest_of, size_of}
+use Rattle.row_shelf.specs.Demands.{AreWanted, all_demands}
+use Rattle.row_shelf.specs.Rooms.{AreWidened, HasRoomAt, IsRoomy, greatest_of, size_of}
 use Rattle.year_system.specs.System.{System, cells, unit_limit}
 
 drop_at : (ids : List ℕ) (k m : ℕ) → k < length ids → m ≡ suc k → drop k ids ≡ get_or ids k 0 ∷ drop m ids
@@ -47,15 +50,12 @@ room_all book n m (id ∷ ids) =
     (λ s at. record { cells = greatest_first cells book n id ids s at; units = greatest_first unit_limit book m id ids s at })
     (room_all book (max n (size_of cells (slice_get book id))) (max m (size_of unit_limit (slice_get book id))) ids)
 
-can_sweep : {X : Type 0} (room : X → Room) (book : List System) (ids : List ℕ) (cases : List (List (List (List ℕ)))) (n m : ℕ) (fs : List X)
-    → All (FitBook book ids) cases → All (HasRoomAt n m book) ids → All (λ e. IsRoomy n m (room e)) fs → All (CanSweep room book (all_demands book ids cases)) fs
-can_sweep {X} room book ids cases n m fs fit enough roomy = All-weaker (λ (e : X). IsRoomy n m (room e)) (CanSweep room book (all_demands book ids cases)) (λ f. have_room book ids cases n m (room f) fit enough) fs roomy
-
-pub sweep_these : {X : Type 0} (room : X → Room) (book : List System) (ids : List ℕ) (cases : List (List (List (List ℕ)))) (ds : List Demand) (n m : ℕ) (fs : List X) → ds ≡ all_demands book ids cases
-    → All (FitBook book ids) cases → n ≡ greatest_of cells book 0 ids → m ≡ greatest_of unit_limit book 0 ids → All (λ e. IsRoomy n m (room e)) fs → All (CanSweep room book ds) fs
-sweep_these {X} room book ids cases ds n m fs is fit is_n is_m roomy =
+pub sweep_these : {X : Type 0} (room : X → Room) (book : List System) (kept : List KeptRow) (ids : List ℕ) (cases : List (List (List (List ℕ)))) (ds : List Demand) (n m : ℕ) (fs : List X)
+    → AreWanted kept (all_demands book ids cases) ds → All (FitBook book ids) cases → n ≡ greatest_of cells book 0 ids → m ≡ greatest_of unit_limit book 0 ids
+    → All (λ e. IsRoomy n m (room e)) fs → All (CanSweep room book ds) fs
+sweep_these {X} room book kept ids cases ds n m fs wants fit is_n is_m roomy =
     let enough : All (HasRoomAt n m book) ids = rw (is_n, is_m) (room_all book 0 0 ids) in
-    subst (λ (l : List Demand). All (CanSweep room book l) fs) (sym is) (can_sweep room book ids cases n m fs fit enough roomy)
+    All-weaker (λ (e : X). IsRoomy n m (room e)) (CanSweep room book ds) (λ f one. wanted_all (HasRoomFor (room f) book) kept (all_demands book ids cases) ds wants (have_room book ids cases n m (room f) fit enough one)) fs roomy
 
 -- rooms that are as before
 pub are_same : (c u : ℕ) (rooms : List Room) → AreWidened c u rooms rooms

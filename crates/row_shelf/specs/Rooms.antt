@@ -1,5 +1,5 @@
 -- Engines' rooms for the systems of asked keys. This program's own.
-use Rattle.std.specs.Prelude.{◌≡◌, ◌⊎◌, ℕ, ◌≤◌, List, [], ◌∷◌, map, max, Option, None, Some, slice_get}
+use Rattle.std.specs.Prelude.{◌≡◌, ◌⊎◌, ℕ, ◌≤◌, List, [], ◌∷◌, max, Option, None, Some, slice_get}
 use Rattle.sim_engine.specs.Engine.{Room, widened}
 use Rattle.year_system.specs.System.{System, cells, unit_limit}
 

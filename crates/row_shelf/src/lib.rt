@@ -6,11 +6,14 @@
 //! contract that the layers above use: after `fill` the row of each asked key is there, all from before stay, no others
 //! come, and each new key was simulated once by one of the engines.
 //!
+//! The keys whose rows are not there go to the engines in the order in which neighbours share most.
+//!
 //! One shelf is the memory of a session. Only want of memory is refused, and it leaves the rows as before.
 #![tactic(auto)]
 
 mod demands;
 mod interning;
+mod neighbours;
 mod rooms;
 mod shelf;
 

@@ -11,7 +11,7 @@ ghost use Rattle.sim_engine.specs.Engine.{Run, raised};
 ghost use Rattle.year_system.specs.System.{IsSystem};
 ghost use Rattle.sim_sweep.specs.Works.{HaveRun};
 
-use crate::demands::{all_demands, case_demands};
+use crate::demands::{case_demands, wanted_demands};
 use crate::interning::intern_all;
 use crate::rooms::{make_ready, room_for};
 use cost_terms::{CaseTable, Economy};
@@ -131,7 +131,7 @@ impl Shelf {
         // Their readings tell the proof that the systems are ones, no two the same, and that the new codes come once.
         let _systems = self.book.len();
         new_codes_come_once();
-        let demands = all_demands(self.alloc, &self.book, ids, cases)?;
+        let demands = wanted_demands(self.alloc, &self.book, &self.kept, ids, cases)?;
         let (cells, units) = room_for(&self.book, ids);
         make_ready(engines, cells, units)?;
         let filled = keep_rows(

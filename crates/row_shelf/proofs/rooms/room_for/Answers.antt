@@ -1,4 +1,4 @@
-use Rattle.std.proofs.Common.{◌≡◌, ◌≤◌, ◌∙◌, ap, sym, max, arith}
+use Rattle.std.proofs.Common.{◌∙◌, ap, sym, max, arith}
 use Rattle.row_shelf.proofs.RoomSteps.{greatest_all, greatest_more}
 use Rattle.year_system.specs.System.{cells, unit_limit}
 use Rattle.row_shelf.proofs.rooms.room_for.Goals as goal
