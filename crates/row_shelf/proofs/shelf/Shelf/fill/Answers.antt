@@ -1,5 +1,6 @@
 use Rattle.std.proofs.Common.{◌≡◌, ℕ, ◌∙◌, ◌+◌, ◌<◌, ap, sym, length, arith, All, subst}
-use Rattle.row_shelf.proofs.AskSteps.{are_demands, few_asked}
+use Rattle.std.proofs.lemmas.Result.{on_ok_weaker}
+use Rattle.row_shelf.proofs.AskSteps.{are_demands, few_asked, few_new}
 use Rattle.row_shelf.proofs.FillSteps.{fills, on_ok2, on_ok5}
 use Rattle.row_shelf.proofs.RoomSteps.{sweep_these}
 use Rattle.row_shelf.proofs.WantedSteps.{wanted_all, wanted_few}
@@ -54,3 +55,13 @@ returns-clause-tally g c =
     (λ many tally new is.
     let kept : c.self.inside.kept ≡ c.args.self.now.kept = ap (λ (v : ShelfIs). v.kept) c.self.view_is in
     tally ∙ ap (λ (n : ℕ). raised n c.args.tally.now) (omega (arith, many, is, ap length kept)))
+
+pub returns-clause-few : goal.returns-clause-few
+returns-clause-few g c =
+    let all = all_demands c.self.inside.book c.args.ids.now c.args.cases.now in
+    let wants = subst (AreWanted c.self.inside.kept all) (sym c.deref.ensures.value) c.in_ok-demands.ensures in
+    let wanted = wanted_few c.self.inside.kept all c.deref.result.now wants in
+    let few = few_asked c.self.inside.book c.args.ids.now c.args.cases.now in
+    let new = few_new c.self.inside.kept c.deref.result.now in
+    let kept : c.self.inside.kept ≡ c.args.self.now.kept = ap (λ (v : ShelfIs). v.kept) c.self.view_is in
+    on_ok_weaker c.keep_rows-filled.result (λ many. omega (arith, many, wanted, few, new, ap length kept)) c.keep_rows-filled.ensures.many
