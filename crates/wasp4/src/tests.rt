@@ -148,9 +148,7 @@ fn each_key_is_simulated_once(rt: HostRuntime) -> Result<(), Fail> {
     let mut sink = MemSink::new(rt.alloc(), 4000, 64, &[])?;
     let mut words = CommandWords::new(rt.alloc());
     words.push("plan")?;
-    let mut systems = Vec::new(rt.alloc());
-    systems.push(system(rt.alloc())?)?;
-    let mut engines = [TapeEngine::new(rt.alloc(), systems, 10)?];
+    let mut engines = [telling(rt.alloc())?];
     let mut tally = Tally::new();
     let status = run(
         &rt,
@@ -172,6 +170,54 @@ fn each_key_is_simulated_once(rt: HostRuntime) -> Result<(), Fail> {
         config.set(0, count as u64);
         assert!(rt; runs[count].config == config);
     }
+    Ok(())
+}
+
+/// An engine that tells its runs of the system of the deck.
+fn telling(alloc: Global) -> Result<TapeEngine, Fail> {
+    let mut systems = Vec::new(alloc);
+    systems.push(system(alloc)?)?;
+    Ok(TapeEngine::new(alloc, systems, 10)?)
+}
+
+/// How many runs it tells.
+fn told(engine: &TapeEngine) -> usize {
+    match engine.runs() {
+        Some(runs) => runs.len(),
+        None => 1000,
+    }
+}
+
+/// Two of three engines are asked for: they simulate each key once between them, and the third does nothing.
+#[test]
+fn two_of_three_engines_work(rt: HostRuntime) -> Result<(), Fail> {
+    let script = format!(in rt.alloc(); "{DECK}PLAN\nEND\n")?;
+    let report = format!(in rt.alloc(); "PLAN 1\n{CASE}KEYS 3\n")?;
+    let mut source = MemSource::new(rt.alloc(), script.as_bytes(), 64, &[])?;
+    let mut sink = MemSink::new(rt.alloc(), 4000, 64, &[])?;
+    let mut words = CommandWords::new(rt.alloc());
+    words.push("plan")?;
+    words.push("--workers")?;
+    words.push("2")?;
+    let mut engines = [
+        telling(rt.alloc())?,
+        telling(rt.alloc())?,
+        telling(rt.alloc())?,
+    ];
+    let mut tally = Tally::new();
+    let status = run(
+        &rt,
+        rt.alloc(),
+        &words,
+        &mut engines,
+        &mut source,
+        &mut sink,
+        &mut tally,
+    );
+    assert_eq!(rt; status, Status::Done);
+    assert_eq!(rt; sink.bytes(), report.as_bytes());
+    let both = told(&engines[0]).saturating_add(told(&engines[1]));
+    assert_eq!(rt; (both, told(&engines[2]), tally.filled()), (3, 0, 3));
     Ok(())
 }
 
