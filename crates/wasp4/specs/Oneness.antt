@@ -22,9 +22,9 @@ TextsAreOne = (command : Command) (script : Script) (said other : List ℕ) (sta
     → AreAlike command script said other start now start' now' one two
 
 -- two runs that close over the same bytes, by whatever engines and however many, write the same and end the same
-pub record EndAlike (said other : List ℕ) (ending ending' : Ending) : Type 0 where
+pub record EndAlike (said other : List ℕ) (one_ending other_ending : Ending) : Type 0 where
   pub text : said ≡ other
-  pub ending : ending ≡ ending'
+  pub ending : one_ending ≡ other_ending
 
 abbrev pub WorkersWriteOneText : Type 0
 WorkersWriteOneText = (command : Command) (bytes said other : List ℕ) (start now start' now' : Effort) (ending ending' : Ending)

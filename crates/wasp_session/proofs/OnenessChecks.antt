@@ -14,10 +14,9 @@ use Rattle.report_text.specs.declared.refusals.Refusal.TheVariants.{Deck, Wide, 
 use Rattle.report_text.specs.declared.verdicts.Judged.{Judged}
 use Rattle.report_text.specs.declared.verdicts.Judged.TheVariants.{Refused, Form, Said}
 use Rattle.tunnel_configs.specs.Listed.{ListingsAreOne}
-use Rattle.wasp_session.proofs.CheckSteps.{over_not_case}
-use Rattle.wasp_session.proofs.OnenessReports.{over_in_one, table_one}
-use Rattle.wasp_session.specs.Checks.{AreWithin, IsFormFaultOf, IsInForm, IsJudged, IsVerdictOf, Open}
-use Rattle.wasp_session.specs.Listings.{IsOverIn}
+use Rattle.wasp_session.proofs.OnenessReports.{over_in_apart, over_in_one, table_one}
+use Rattle.wasp_session.specs.Checks.{IsFormFaultOf, IsInForm, IsJudged, IsVerdictOf, Open}
+use Rattle.wasp_session.specs.Listings.{AreWithin, IsOverIn, deck_tunnels}
 use Rattle.wasp_session.specs.Oneness.{JudgementsAreOne}
 
 -- something is so and is what is said, or it cannot be and the rest decides
@@ -36,7 +35,7 @@ abbrev Verdicts : Says → Open → Judged → Type 0
 Verdicts d o j = (v : Verdict) × IsVerdictOf d o v × (j ≡ Said v)
 
 abbrev Limits : Says → Open → Judged → Type 0
-Limits d o j = Branch (IsOverIn d o.case) (λ (r : Refusal). Refused r) (AreWithin d o.case) (Verdicts d o) j
+Limits d o j = Branch (IsOverIn d o.case (deck_tunnels d o.case)) (λ (r : Refusal). Refused r) (AreWithin d o.case (deck_tunnels d o.case)) (Verdicts d o) j
 
 abbrev Forms : Says → Open → Judged → Type 0
 Forms d o j = Branch (IsFormFaultOf d o) (λ (i : ℕ). Form i) (IsInForm d o) (Limits d o) j
@@ -63,13 +62,14 @@ form_apart d o i (inr a) form = form.form i a.1
 
 verdict_one : ListingsAreOne → (d : Says) (o : Open) (v w : Verdict) → IsVerdictOf d o v → IsVerdictOf d o w → v ≡ w
 verdict_one one d o v w a b =
-    let table : a.table ≡ b.table = table_one one d o.case a.table b.table a.is_table b.is_table in
+    let table : a.table ≡ b.table = table_one one d o.case (deck_tunnels d o.case) a.table b.table a.is_table b.is_table in
     said_one a.table (years d) (length (greatest d)) o.certificate a.certificate b.certificate v w a.is_said b.is_said a.is_verdict (subst (λ (t : Table). IsVerdict t b.certificate w) (sym table) b.is_verdict)
 
 pub one_judgement : ListingsAreOne → JudgementsAreOne
 one_judgement one d o x y a b =
     branch_one (IsFaultOf d) (λ (f : DeckFault). Refused (Deck f)) (HasNoFault d) (Forms d o) x y (single d) (met d)
     (branch_one (IsFormFaultOf d o) (λ (i : ℕ). Form i) (IsInForm d o) (Limits d o) x y (form_one d o) (form_apart d o)
-    (branch_one (IsOverIn d o.case) (λ (r : Refusal). Refused r) (AreWithin d o.case) (Verdicts d o) x y (over_in_one one d o.case) (over_not_case one d o.case)
+    (branch_one (IsOverIn d o.case (deck_tunnels d o.case)) (λ (r : Refusal). Refused r) (AreWithin d o.case (deck_tunnels d o.case)) (Verdicts d o) x y
+    (over_in_one one d o.case (deck_tunnels d o.case)) (over_in_apart one d o.case (deck_tunnels d o.case))
     (λ v w. v.2 ∙ (ap (λ (u : Verdict). Said u) (verdict_one one d o v.0 w.0 v.1 w.1) ∙ sym w.2))))
     (in_order d o x a) (in_order d o y b)

@@ -31,7 +31,7 @@ no_longer (x ∷ xs) ys apart inside =
     omega (arith, rest, length-remove ys at.0 at.1)
 
 pub one_key_list : KeyListsAreOne
-one_key_list ls xs ys a b =
+one_key_list command ls xs ys a b =
     let to : (key : Run) → Contains xs key → Contains ys key = λ key has. (b.each key).1 ((a.each key).0 has) in
     let back : (key : Run) → Contains ys key → Contains xs key = λ key has. (a.each key).1 ((b.each key).0 has) in
     record {

@@ -17,10 +17,14 @@ use Rattle.wasp_session.proofs.OnenessChecks.{one_judgement}
 use Rattle.wasp_session.proofs.OnenessKeys.{one_key_list}
 use Rattle.wasp_session.proofs.OnenessReports.{one_refusal, one_report}
 use Rattle.wasp_session.proofs.TellSteps.{joined_assoc, nothing_joined, same_told}
-use Rattle.wasp_session.specs.Case.{Told}
 use Rattle.wasp_session.specs.Checks.{Open, check_count, nos_of, open_at}
+use Rattle.wasp_session.specs.Listings.{deck_tunnels}
 use Rattle.wasp_session.specs.Oneness.{TellingOfAFront, TellingsAreOne}
-use Rattle.wasp_session.specs.Said.{AreCasesTold, AreJoined, AreToldAfter, IsCaseTold, IsCheckTold, IsDeckTold, IsEndTold, IsLineTold, IsPlanTold, joined, nothing, plain, plan_count}
+use Rattle.wasp_session.specs.Said.{AreCasesTold, IsCaseTold, IsCheckTold, IsDeckTold}
+use Rattle.wasp_session.specs.Tasks.{AreToldAfter, IsEndTold, IsLineTold, Task, plan_count, task_of}
+use Rattle.wasp_session.specs.Told.{AreJoined, Told, joined, nothing, plain}
+use Rattle.wasp_session.specs.declared.command.Command.{Command}
+use Rattle.wasp_session.specs.declared.command.Command.TheVariants as commands
 
 -- two tellings that are each one are one together
 joined_one : (One Other : Told → Type 0) (a b : Told) → ((x y : Told) → One x → One y → x ≡ y) → ((x y : Told) → Other x → Other y → x ≡ y) → AreJoined One Other a → AreJoined One Other b → a ≡ b
@@ -37,10 +41,10 @@ both_are told a b x y = x ∙ sym y
 
 case_one : ListingsAreOne → (d : Says) (c : ℕ) (a b : Told) → IsCaseTold d c a → IsCaseTold d c b → a ≡ b
 case_one one d c a b x y =
-    let same : x.report ≡ y.report = one_report one d c x.report y.report x.is_of y.is_of in
+    let same : x.report ≡ y.report = one_report one d c (deck_tunnels d c) x.report y.report x.is_of y.is_of in
     same_told a b
     (x.text ∙ (ap (λ (r : CaseReport). case_text c r) same ∙ sym y.text))
-    (x.chosen ∙ (ap (λ (r : CaseReport). length r.years) same ∙ sym y.chosen))
+    (x.details ∙ (ap (λ (r : CaseReport). length r.years) same ∙ sym y.details))
     (x.nos ∙ sym y.nos)
 
 cases_one : ListingsAreOne → (d : Says) (c : ℕ) (a b : Told) → AreCasesTold d c a → AreCasesTold d c b → a ≡ b
@@ -53,72 +57,74 @@ deck_one one d a b (inl x) (inr y) = absurd ((one_refusal one).apart d x.refusal
 deck_one one d a b (inr x) (inl y) = absurd ((one_refusal one).apart d y.refusal y.is_of x.taken)
 deck_one one d a b (inr x) (inr y) = cases_one one d (cases d) a b x.cases y.cases
 
-plan_one : ListingsAreOne → (d : Says) (n : ℕ) (a b : Told) → IsPlanTold d n a → IsPlanTold d n b → a ≡ b
-plan_one one d n a b x y = joined_one (λ head. head ≡ plain (heading n)) (IsDeckTold d) a b (both_are (plain (heading n))) (deck_one one d) x y
+plan_one : ListingsAreOne → (command : Command) (n : ℕ) (d : Says) (a b : Told) → (task_of command).tells n d a → (task_of command).tells n d b → a ≡ b
+plan_one one commands.Plan n d a b x y = joined_one (λ head. head ≡ plain (heading n)) (IsDeckTold d) a b (both_are (plain (heading n))) (deck_one one d) x y
+plan_one one commands.Check n d a b x y = x ∙ sym y
 
 -- ---- a CHECK, and the end
 
 check_one : ListingsAreOne → (d : Says) (n : ℕ) (o : Option Open) (a b : Told) → IsCheckTold d n o a → IsCheckTold d n o b → a ≡ b
 check_one one d n None a b x y = x ∙ sym y
 check_one one d n (Some o) a b x y =
-    x.is ∙ (ap (λ (j : Judged). record { text = verdict_line n o.case j; chosen = 0; nos = nos_of j }) (one_judgement one d o x.judged y.judged x.is_of y.is_of) ∙ sym y.is)
+    x.is ∙ (ap (λ (j : Judged). record { text = verdict_line n o.case j; details = 0; nos = nos_of j }) (one_judgement one d o x.judged y.judged x.is_of y.is_of) ∙ sym y.is)
 
-end_one : (before : List Line) (a b : Told) → IsEndTold before a → IsEndTold before b → a ≡ b
-end_one before a b x y =
-    let p = x.keys in
-    let q = y.keys in
-    let many : x.many ≡ y.many = p.many ∙ ((one_key_list before p.keys q.keys p.are_keys q.are_keys).many ∙ sym q.many) in
+end_one : (command : Command) (before : List Line) (a b : Told) → IsEndTold (task_of command) before a → IsEndTold (task_of command) before b → a ≡ b
+end_one command before a b x y =
+    let many = (one_key_list command before x.keys y.keys x.are_keys y.are_keys).many in
     x.is ∙ (ap (λ (n : ℕ). plain (keys_line n)) many ∙ sym y.is)
 
 -- ---- lines
 
-line_one : ListingsAreOne → (before : List Line) (line : Line) (a b : Told) → IsLineTold before line a → IsLineTold before line b → a ≡ b
-line_one one before lines.Plan a b x y = plan_one one (deck_at before) (plan_count before + 1) a b x y
-line_one one before lines.EndCheck a b x y = check_one one (deck_at before) (check_count before) (open_at before) a b x y
-line_one one before lines.End a b x y = end_one before a b x y
-line_one one before lines.Blank a b x y = x ∙ sym y
-line_one one before (lines.Set s) a b x y = x ∙ sym y
-line_one one before (lines.Drop h) a b x y = x ∙ sym y
-line_one one before (lines.Check c) a b x y = x ∙ sym y
-line_one one before (lines.Cert l) a b x y = x ∙ sym y
-line_one one before lines.Skip a b x y = x ∙ sym y
+line_one : ListingsAreOne → (command : Command) (before : List Line) (line : Line) (a b : Told)
+    → IsLineTold (task_of command) before line a → IsLineTold (task_of command) before line b → a ≡ b
+line_one one command before lines.Plan a b x y = plan_one one command (plan_count before + 1) (deck_at before) a b x y
+line_one one command before lines.EndCheck a b x y = check_one one (deck_at before) (check_count before) (open_at before) a b x y
+line_one one command before lines.End a b x y = end_one command before a b x y
+line_one one command before lines.Blank a b x y = x ∙ sym y
+line_one one command before (lines.Set s) a b x y = x ∙ sym y
+line_one one command before (lines.Drop h) a b x y = x ∙ sym y
+line_one one command before (lines.Check c) a b x y = x ∙ sym y
+line_one one command before (lines.Cert l) a b x y = x ∙ sym y
+line_one one command before lines.Skip a b x y = x ∙ sym y
 
-after_one : ListingsAreOne → (before ls : List Line) (a b : Told) → AreToldAfter before ls a → AreToldAfter before ls b → a ≡ b
-after_one one before [] a b x y = x ∙ sym y
-after_one one before (line ∷ ls) a b x y =
-    joined_one (IsLineTold before line) (AreToldAfter (before ++ line ∷ []) ls) a b (line_one one before line) (after_one one (before ++ line ∷ []) ls) x y
+after_one : ListingsAreOne → (command : Command) (before ls : List Line) (a b : Told)
+    → AreToldAfter (task_of command) before ls a → AreToldAfter (task_of command) before ls b → a ≡ b
+after_one one command before [] a b x y = x ∙ sym y
+after_one one command before (line ∷ ls) a b x y =
+    joined_one (IsLineTold (task_of command) before line) (AreToldAfter (task_of command) (before ++ line ∷ []) ls) a b
+    (line_one one command before line) (after_one one command (before ++ line ∷ []) ls) x y
 
 pub one_telling : ListingsAreOne → TellingsAreOne
-one_telling one ls a b x y = after_one one [] ls a b x y
+one_telling one command ls a b x y = after_one one command [] ls a b x y
 
 -- ---- the first lines
 
-record Splits (before first behind : List Line) (told : Told) : Type 0 where
+record Splits (task : Task) (before first behind : List Line) (told : Told) : Type 0 where
   front : Told
-  is_front : AreToldAfter before first front
+  is_front : AreToldAfter task before first front
   rest : Told
-  is_rest : AreToldAfter (before ++ first) behind rest
+  is_rest : AreToldAfter task (before ++ first) behind rest
   is : told ≡ joined front rest
 
-splits : (before first behind : List Line) (told : Told) → AreToldAfter before (first ++ behind) told → Splits before first behind told
-splits before [] behind told t = record {
+splits : (task : Task) (before first behind : List Line) (told : Told) → AreToldAfter task before (first ++ behind) told → Splits task before first behind told
+splits task before [] behind told t = record {
   front = nothing;
   is_front = refl;
   rest = told;
   is_rest = rw (append-nil before) t;
   is = sym (nothing_joined told);
 }
-splits before (line ∷ first) behind told t =
-    let s = splits (before ++ line ∷ []) first behind t.other t.is_other in
+splits task before (line ∷ first) behind told t =
+    let s = splits task (before ++ line ∷ []) first behind t.other t.is_other in
     record {
       front = joined t.one s.front;
       is_front = record { one = t.one; other = s.front; is_one = t.is_one; is_other = s.is_front; is = refl };
       rest = s.rest;
-      is_rest = subst (λ (ls : List Line). AreToldAfter ls behind s.rest) (append_assoc before (line ∷ []) first) s.is_rest;
+      is_rest = subst (λ (ls : List Line). AreToldAfter task ls behind s.rest) (append_assoc before (line ∷ []) first) s.is_rest;
       is = t.is ∙ (ap (λ (x : Told). joined t.one x) s.is ∙ sym (joined_assoc t.one s.front s.rest));
     }
 
 pub front_told : TellingOfAFront
-front_told first behind told t =
-    let s = splits [] first behind told t in
+front_told command first behind told t =
+    let s = splits (task_of command) [] first behind told t in
     record { front = s.front; is_front = s.is_front; rest = s.rest; is_rest = s.is_rest; is = s.is }

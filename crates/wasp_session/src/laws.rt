@@ -37,7 +37,7 @@ pub fn judgements_are_one()
     listings_are_one();
 }
 
-/// The lines of a script have one text, with one number of CHOSEN lines and one count of NOs.
+/// The lines of a script have one text, with one number of detailed years and one count of NOs.
 pub fn tellings_are_one()
     ensures { TellingsAreOne }
 {

@@ -1,5 +1,5 @@
-use Rattle.wasp_session.proofs.TellSteps.{goes_on_behind}
+use Rattle.wasp_session.proofs.TellSteps.{all_go_on}
 use Rattle.wasp_session.proofs.laws.telling_goes_on.Goals as goal
 
 pub returns : goal.returns
-returns c = goes_on_behind
+returns c = all_go_on
