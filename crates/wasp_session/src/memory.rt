@@ -86,8 +86,14 @@ impl Memory {
     {
         // Its reading tells the proof that there are at most 30 years.
         let _years = typed.years();
-        let ids = self.shelf.take_in(systems)?;
-        self.shelf.fill(rt, &ids, cases, engines, &mut self.tally)?;
+        let taken = self.shelf.take_in(systems);
+        // Its reading tells the proof that the systems are ones, no two the same.
+        let _systems = self.shelf.systems();
+        let ids = taken?;
+        let filled = self.shelf.fill(rt, &ids, cases, engines, &mut self.tally);
+        // Its reading tells the proof that each row is that of its key.
+        let _rows = self.shelf.len();
+        filled?;
         Ok(ids)
     }
 }
