@@ -50,6 +50,8 @@ fn answer_case<E: SimEngine, R: Threads + Sync>(
         (DemandsUnder (body_of typed.now) case (deck_tunnels (body_of typed.now) case)) (body_of typed.now)
         memory.old memory.new E.work engines.old engines.new) }
 {
+    // Its reading tells the proof that the deck meets no row of the fault table.
+    let _years = typed.years();
     listings_are_one();
     let systems = systems_of(alloc, typed)?;
     let tunnels = own_tunnels(alloc, typed, case)?;

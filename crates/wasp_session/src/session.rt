@@ -169,7 +169,10 @@ impl Session {
         ensures state { self.new ≡ record self.old { memory = self.new.memory } }
     {
         write_heading(self.plans, text)?;
-        plan_deck(self.alloc, rt, &self.deck, &mut self.memory, engines, text)
+        let told = plan_deck(self.alloc, rt, &self.deck, &mut self.memory, engines, text);
+        // Its reading tells the proof that the shelf is one.
+        let _shelf = self.memory.shelf();
+        told
     }
 
     /// Plans the deck, which counts as a PLAN line. After want of memory the text is cut back to what it was.
@@ -288,14 +291,17 @@ impl Session {
             return Ok(());
         };
         self.refused = true;
-        let judged = judge_deck(
+        let answer = judge_deck(
             self.alloc,
             rt,
             &self.deck,
             &opened,
             &mut self.memory,
             engines,
-        )?;
+        );
+        // Its reading tells the proof that the shelf is one.
+        let _shelf = self.memory.shelf();
+        let judged = answer?;
         write_verdict(self.checks, opened.case(), &judged, text)?;
         self.nos += count_no(&judged);
         self.refused = false;
