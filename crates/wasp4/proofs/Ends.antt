@@ -5,8 +5,8 @@ use Rattle.std.proofs.lemmas.List.{length-append}
 use Rattle.deck_lines.specs.Grammar.{line_of}
 use Rattle.deck_lines.specs.declared.line.Line.{Line}
 use Rattle.report_text.specs.Lines.{keys_line}
-use Rattle.wasp_session.specs.Case.{Told}
-use Rattle.wasp_session.specs.Said.{AreTold}
+use Rattle.wasp_session.specs.Tasks.{AreTold, plan_task}
+use Rattle.wasp_session.specs.Told.{Told}
 use Rattle.wasp_session.specs.declared.command.Command.TheVariants as commands
 use Rattle.wasp4.specs.Out.{IsFront, IsToldFront, IsWholeFront}
 use Rattle.wasp4.specs.Progress.{HasRoomFor}
@@ -24,18 +24,18 @@ front_none {X} (x ∷ xs) ys e = cc
 within : (text said more : List ℕ) (n : ℕ) → length text ≤ n → text ≡ said ++ more → length said ≤ n
 within text said more n fits e = omega (arith, fits, ap length e, length-append said more)
 
-told_within : (said : List ℕ) → IsToldFront (ends []) said → length said ≤ 7
+told_within : (said : List ℕ) → IsToldFront commands.Plan (ends []) said → length said ≤ 7
 told_within said f =
-    let told : AreTold [] f.told = subst (λ (read : List Line). AreTold read f.told) (front_none f.read f.rest f.lines) f.is_told in
+    let told : AreTold plan_task [] f.told = subst (λ (read : List Line). AreTold plan_task read f.told) (front_none f.read f.rest f.lines) f.is_told in
     within f.told.text said f.more 7 (rw told (omega arith)) f.front
 
 seven : length (keys_line 0) ≡ 7
 seven = rw (decimal_digit 0 (omega arith)) refl
 
-whole_within : (said : List ℕ) → IsWholeFront (ends []) said → length said ≤ 7
+whole_within : (said : List ℕ) → IsWholeFront commands.Plan (ends []) said → length said ≤ 7
 whole_within said f =
     let told : f.told.text ≡ [] = ap (λ (t : Told). t.text) f.is_told in
-    let keys : f.keys ≡ [] = none_of f.keys f.are_keys in
+    let keys : f.keys ≡ [] = none_of commands.Plan f.keys f.are_keys in
     let whole : keys_line 0 ≡ said ++ f.more = sym (rw (told, keys) refl) ∙ f.front in
     within (keys_line 0) said f.more 7 (omega (arith, seven)) whole
 
@@ -48,6 +48,6 @@ room_for_end left written room told wrote sure = record {
   wrote = wrote;
   sure = sure;
   fits = λ said front.
-      let fits : length said ≤ 7 = ⊎_elim (λ f. told_within said f) (λ f. whole_within said f) (subst (λ (s : Script). IsFront s said) is_end front) in
+      let fits : length said ≤ 7 = ⊎_elim (λ f. told_within said f) (λ f. whole_within said f) (subst (λ (s : Script). IsFront commands.Plan s said) is_end front) in
       omega (arith, fits);
 }

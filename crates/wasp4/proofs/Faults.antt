@@ -1,6 +1,6 @@
 -- Which fault a count of faults rose by, and what cannot fail.
 use Rattle.std.proofs.Common.{◌≡◌, ◌≢◌, ◌∙◌, refl, sym, ap, subst, true≢false, false, is_some, ℕ, ◌+◌, ◌-◌, ◌<◌, List, [], ◌∷◌, ◌++◌, length, Option, None, Some, arith}
-use Rattle.std.specs.Prelude.{Result, Ok, IfSome, ◌==◌}
+use Rattle.std.specs.Prelude.{Result, Ok, IfSome, IsTrue, nat_le}
 use Rattle.std.proofs.lemmas.List.{length-append}
 use Rattle.std.specs.Io.KnownBytes.{Appends}
 use Rattle.wasp_io.specs.Causes.{HasCause, Rose}
@@ -8,7 +8,8 @@ use Rattle.wasp_io.specs.Known.{IsSureWithin, is_failed}
 use Rattle.wasp_io.specs.declared.sink.Given.{Given}
 use Rattle.wasp_io.specs.declared.sink.Given.TheVariants as given
 use Rattle.wasp_session.specs.declared.command.Command.{Command}
-use Rattle.wasp4.specs.Out.{IsFront, accepted, asked}
+use Rattle.wasp4.specs.Out.{IsFront, accepted, asked_by, used, with_engines}
+use Rattle.wasp4.specs.declared.asked.Asked.{Asked}
 use Rattle.wasp4.specs.Progress.{HasRoomFor, PutAs, StopsShort}
 use Rattle.wasp4.specs.Script.{script_of}
 use Rattle.wasp4.specs.declared.status.Ending.TheVariants as endings
@@ -95,13 +96,13 @@ never_short command left a b room f g has sure short rose =
     let within = sure has.most has.sure in
     let now : List ℕ = has.before ++ short.said in
     let wrote : b ≡ Some now = wrote_is a b has.before short.said has.wrote within.told short.wrote in
-    let front : IsFront (script_of command has.bytes) (short.said ++ short.next ∷ []) = of_told left has.bytes (λ text. IsFront (script_of command text) (short.said ++ short.next ∷ [])) has.told short.front in
+    let front : IsFront command (script_of command has.bytes) (short.said ++ short.next ∷ []) = of_told left has.bytes (λ text. IsFront command (script_of command text) (short.said ++ short.next ∷ [])) has.told short.front in
     let fits = has.fits (short.said ++ short.next ∷ []) front in
     let fewer : length now < has.most = omega (arith, fits, length-append short.said (short.next ∷ []), length-append has.before short.said) in
     not_risen f g (of_told b now (λ bytes. length bytes < has.most → g ≡ 0) wrote within.no_fault fewer) rose
 
--- the command that the words are is the one that is accepted
-pub same_command : (words : List (List ℕ)) (engines : ℕ) (result : Option Command) (command other : Command) → result ≡ Some command → result ≡ asked words → engines == 0 ≡ false → accepted words engines ≡ Some other → command ≡ other
-same_command words engines result command other is by some taken =
-    let told : asked words ≡ Some other = rw some at taken in
-    same_some (sym is ∙ by ∙ told)
+-- what the words ask for is what is accepted
+pub same_asked : (words : List (List ℕ)) (engines : ℕ) (result : Option Asked) (asked other : Asked) → result ≡ Some asked → result ≡ asked_by words → IsTrue (nat_le (used asked) engines) → accepted words engines ≡ Some other → asked ≡ other
+same_asked words engines result asked other is by enough taken =
+    let told : with_engines engines (Some asked) ≡ Some other = subst (λ (x : Option Asked). with_engines engines x ≡ Some other) (sym by ∙ is) taken in
+    same_some (sym (rw enough refl) ∙ told)

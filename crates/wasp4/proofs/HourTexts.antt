@@ -10,11 +10,11 @@ use Rattle.hourly_load.specs.declared.shape.Hourly.{Hourly}
 use Rattle.report_text.specs.Refusals.{malformed_line}
 use Rattle.wasp_io.specs.Causes.{Rose}
 use Rattle.wasp_io.specs.Known.{IsSureWithin}
-use Rattle.wasp_session.specs.declared.command.Command.{Command}
 use Rattle.wasp4.specs.declared.status.Ending.{Ending}
 use Rattle.wasp4.specs.declared.status.Ending.TheVariants as endings
 use Rattle.wasp4.specs.Hours.{AnswersHours, CutsHours, HasRoomForHours, SaysHours, loads_of}
-use Rattle.wasp4.specs.Out.{accepted, asked, hours_points}
+use Rattle.wasp4.specs.Out.{accepted, asked_by, hours_points, with_engines}
+use Rattle.wasp4.specs.declared.asked.Asked.{Asked}
 use Rattle.wasp4.specs.Progress.{IsCutShort, status_of}
 
 pub says_shape : (points : ℕ) (before : Option (List ℕ)) (loads text more : List ℕ) (h : Hourly) → IfSome before (λ t. loads_of t ≡ Ok loads) → IsHourly loads points h → text ≡ [] → more ≡ text ++ hourly_text h → SaysHours points before more endings.Done
@@ -50,21 +50,17 @@ cuts points before written written' said ending says cut = record { said = said;
 -- ---- the words
 
 -- they ask for no script
-two_words : (words : List (List ℕ)) (points : ℕ) → hours_points words ≡ Some points → asked words ≡ None
+two_words : (words : List (List ℕ)) (points : ℕ) → hours_points words ≡ Some points → asked_by words ≡ None
 two_words [] points e = refl
 two_words (word ∷ []) points e = absurd cc
 two_words (word ∷ number ∷ []) points e = refl
-two_words (word ∷ number ∷ other ∷ words) points e = refl
-
-none_of : (t : Bool) (x : Option Command) → x ≡ None → (if t then None else x) ≡ None
-none_of true x e = refl
-none_of false x e = e
+two_words (word ∷ number ∷ other ∷ words) points e = absurd cc
 
 pub no_script : (words : List (List ℕ)) (engines points : ℕ) → hours_points words ≡ Some points → accepted words engines ≡ None
-no_script words engines points e = none_of (engines == 0) (asked words) (two_words words points e)
+no_script words engines points e = ap (with_engines engines) (two_words words points e)
 
-pub no_command : {P : Type 0} (words : List (List ℕ)) (engines points : ℕ) (command : Command) → hours_points words ≡ Some points → accepted words engines ≡ Some command → P
-no_command {P} words engines points command e taken = absurd (let none = no_script words engines points e in cc)
+pub no_command : {P : Type 0} (words : List (List ℕ)) (engines points : ℕ) (asked : Asked) → hours_points words ≡ Some points → accepted words engines ≡ Some asked → P
+no_command {P} words engines points asked e taken = absurd (let none = no_script words engines points e in cc)
 
 -- the points that the words ask for are one number
 pub same_points : (result : Option ℕ) (asked : Option ℕ) (one other : ℕ) → result ≡ Some one → result ≡ asked → asked ≡ Some other → one ≡ other

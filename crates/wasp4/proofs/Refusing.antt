@@ -13,7 +13,6 @@ use Rattle.line_reader.specs.Lines.{IsUnbroken, lines_of, onto}
 use Rattle.line_reader.specs.Reading.{IsLast}
 use Rattle.report_text.specs.Lines.{keys_line}
 use Rattle.report_text.specs.Refusals.{malformed_line}
-use Rattle.sim_engine.specs.Engine.{Work}
 use Rattle.wasp_session.specs.State.{State}
 use Rattle.wasp_session.specs.declared.command.Command.{Command}
 use Rattle.wasp4.specs.declared.status.Ending.{Ending}
@@ -23,7 +22,7 @@ use Rattle.wasp4.specs.declared.status.Turn.TheVariants as turns
 use Rattle.wasp4.specs.Out.{IsAnswered}
 use Rattle.wasp4.specs.Progress.{AnswersLine, EndsAs, EndsHere, EndsIn, IsOneLine, TurnFrom}
 use Rattle.wasp4.specs.Script.{Malformed, Script, ends, script_behind, stops}
-use Rattle.wasp4.specs.Work.{HasRun}
+use Rattle.wasp4.specs.Going.{Effort, HasRun}
 use Rattle.wasp4.proofs.Running.{closed, closed_nos}
 use Rattle.wasp4.proofs.Scripts.{ends_here, no_end, stated_to, too_many}
 use Rattle.wasp4.proofs.Texts.{behind_line}
@@ -59,8 +58,8 @@ not_full n few full = absurd (omega (arith, few, full))
 -- ---- a line that has a fault
 
 -- the line behind those that were read
-pub refused : (command : Command) (before now : Option (List ℕ)) (read : List Line) (s : State) (said text more bytes : List ℕ) (w v : Work) (number : ℕ) (f : LineFault) → HasRun command read s said w v → number ≡ length read + 1 → text ≡ []
-    → more ≡ (text ++ malformed_line number f) ++ keys_line (length s.kept) → IfSome before (λ t. script_behind command read (lines_of t) ≡ stops read f)
+pub refused : (command : Command) (before now : Option (List ℕ)) (read : List Line) (s : State) (said text more bytes : List ℕ) (w v : Effort) (number : ℕ) (f : LineFault) → HasRun command read s said w v → number ≡ length read + 1 → text ≡ []
+    → more ≡ (text ++ malformed_line number f) ++ keys_line (length s.memory.shelf.kept) → IfSome before (λ t. script_behind command read (lines_of t) ≡ stops read f)
     → IsOneLine bytes → Consumes before now bytes → ((length read ≡ 100000) → length bytes ≤ 1) → EndsIn command before now read (said ++ more) w v endings.Malformed
 refused command before now read s said text more bytes w v number f r e clear is h one taken few =
     let at : Malformed = record { line = length read + 1; fault = f } in
@@ -72,8 +71,8 @@ refused command before now read s said text more bytes w v number f r e clear is
       script = stops read f;
       is = h;
       answered = closed command read s said more w v (Some at) r
-          (is ∙ ap (λ (x : List ℕ). (x ++ malformed_line number f) ++ keys_line (length s.kept)) clear
-          ∙ ap (λ (n : ℕ). malformed_line n f ++ keys_line (length s.kept)) e);
+          (is ∙ ap (λ (x : List ℕ). (x ++ malformed_line number f) ++ keys_line (length s.memory.shelf.kept)) clear
+          ∙ ap (λ (n : ℕ). malformed_line n f ++ keys_line (length s.memory.shelf.kept)) e);
       ends = λ none. true≢false (ap is_some none);
     }
 
@@ -112,8 +111,8 @@ one_byte command (Some t) (Some rest) b read taken full =
 -- ---- a line that ends the script
 
 -- an END
-pub ended_here : (command : Command) (read : List Line) (bytes : List ℕ) (s : State) (said more : List ℕ) (w v : Work) (ending : Ending) → length read < 100000 → HasRun command read s said w v
-    → stated_to s bytes ≡ Ok lines.End → more ≡ keys_line (length s.kept) → EndsAs ending None s.nos → EndsHere command read bytes (said ++ more) w v ending
+pub ended_here : (command : Command) (read : List Line) (bytes : List ℕ) (s : State) (said more : List ℕ) (w v : Effort) (ending : Ending) → length read < 100000 → HasRun command read s said w v
+    → stated_to s bytes ≡ Ok lines.End → more ≡ keys_line (length s.memory.shelf.kept) → EndsAs ending None s.nos → EndsHere command read bytes (said ++ more) w v ending
 ended_here command read bytes s said more w v ending few r is text h = record {
   script = ends read;
   is = ends_here command read s said w v bytes few r is;
@@ -129,7 +128,7 @@ none_said said (suc nos) h e = absurd (true≢false (sym (h.1 (omega arith)) ∙
 -- ---- a line that was answered
 
 -- with its line feed
-pub line_turn : (command : Command) (before now : Option (List ℕ)) (read : List Line) (bytes : List ℕ) (s : State) (said text : List ℕ) (start w : Work) (turn : Turn) → IsUnbroken bytes → length bytes ≤ 4096 → length read < 100000
+pub line_turn : (command : Command) (before now : Option (List ℕ)) (read : List Line) (bytes : List ℕ) (s : State) (said text : List ℕ) (start w : Effort) (turn : Turn) → IsUnbroken bytes → length bytes ≤ 4096 → length read < 100000
     → Consumes before now (bytes ++ 10 ∷ []) → AnswersLine command read bytes s (said ++ text) start w turn → TurnFrom command before now read s said text start w (Some turn)
 line_turn command before now read bytes s said text start w turns.Goes whole short few taken a = record { bytes = bytes; whole = whole; taken = taken; line = a.0; leads = a.1; run = a.2 }
 line_turn command before now read bytes s said text start w (turns.Over ending) whole short few taken a = record {
@@ -149,7 +148,7 @@ last_is : (command : Command) (before : Option (List ℕ)) (read : List Line) (b
 last_is command None read bytes script h e = tt
 last_is command (Some t) read bytes script h e = ap (script_behind command read) h ∙ e
 
-pub over_turn : (command : Command) (before now : Option (List ℕ)) (read : List Line) (bytes : List ℕ) (said : List ℕ) (start w : Work) (ending : Ending) → IsLast before now bytes → IsUnbroken bytes → length bytes ≤ 4096 → length read < 100000
+pub over_turn : (command : Command) (before now : Option (List ℕ)) (read : List Line) (bytes : List ℕ) (said : List ℕ) (start w : Effort) (ending : Ending) → IsLast before now bytes → IsUnbroken bytes → length bytes ≤ 4096 → length read < 100000
     → IfSome before (λ t. lines_of t ≡ bytes ∷ []) → EndsHere command read bytes said start w ending → EndsIn command before now read said start w ending
 over_turn command before now read bytes said start w ending last whole short few h a = record {
   bytes = bytes;
@@ -163,19 +162,19 @@ over_turn command before now read bytes said start w ending last whole short few
 }
 
 -- and no END stands behind it
-pub last_goes : (command : Command) (before now : Option (List ℕ)) (read : List Line) (bytes : List ℕ) (s : State) (said text more : List ℕ) (start w : Work) (number : ℕ) → number ≡ length read + 1
+pub last_goes : (command : Command) (before now : Option (List ℕ)) (read : List Line) (bytes : List ℕ) (s : State) (said text more : List ℕ) (start w : Effort) (number : ℕ) → number ≡ length read + 1
     → IsLast before now bytes → IsUnbroken bytes → length bytes ≤ 4096 → length read < 100000 → IfSome before (λ t. lines_of t ≡ bytes ∷ [])
-    → AnswersLine command read bytes s (said ++ text) start w turns.Goes → more ≡ (text ++ malformed_line (number + 1) (fault kinds.NoEnd 1)) ++ keys_line (length s.kept)
+    → AnswersLine command read bytes s (said ++ text) start w turns.Goes → more ≡ (text ++ malformed_line (number + 1) (fault kinds.NoEnd 1)) ++ keys_line (length s.memory.shelf.kept)
     → EndsIn command before now read (said ++ more) start w endings.Malformed
 last_goes command before now read bytes s said text more start w number e last whole short few h a is =
     let all : List Line = read ++ a.0 ∷ [] in
     let f : LineFault = fault kinds.NoEnd 1 in
     let at : Malformed = record { line = length all + 1; fault = f } in
-    let tail : List ℕ = malformed_line (length all + 1) f ++ keys_line (length s.kept) in
+    let tail : List ℕ = malformed_line (length all + 1) f ++ keys_line (length s.memory.shelf.kept) in
     let next : number + 1 ≡ length all + 1 = omega (arith, e, length-append read (a.0 ∷ [])) in
     let parts : (said ++ text) ++ tail ≡ said ++ more =
     append_assoc said text tail
-    ∙ ap (λ (x : List ℕ). said ++ x) (sym (is ∙ ap (λ (n : ℕ). (text ++ malformed_line n f) ++ keys_line (length s.kept)) next ∙ append_assoc text (malformed_line (length all + 1) f) (keys_line (length s.kept)))) in
+    ∙ ap (λ (x : List ℕ). said ++ x) (sym (is ∙ ap (λ (n : ℕ). (text ++ malformed_line n f) ++ keys_line (length s.memory.shelf.kept)) next ∙ append_assoc text (malformed_line (length all + 1) f) (keys_line (length s.memory.shelf.kept)))) in
     record {
       bytes = bytes;
       one = line_part bytes whole (omega (arith, short));
@@ -183,6 +182,6 @@ last_goes command before now read bytes s said text more start w number e last w
       few = not_full (length read) few;
       script = stops all f;
       is = last_is command before read bytes (stops all f) h (a.1 [] ∙ no_end command all);
-      answered = subst (λ (x : List ℕ). IsAnswered (stops all f) x start w) parts (closed command all s (said ++ text) tail start w (Some at) a.2 refl);
+      answered = subst (λ (x : List ℕ). IsAnswered command (stops all f) x start w) parts (closed command all s (said ++ text) tail start w (Some at) a.2 refl);
       ends = λ none. true≢false (ap is_some none);
     }

@@ -12,15 +12,15 @@ use Rattle.deck_lines.specs.declared.fault.LineKind.TheVariants as kinds
 use Rattle.deck_lines.specs.declared.line.Line.{Line}
 use Rattle.deck_lines.specs.declared.line.Line.TheVariants as lines
 use Rattle.deck_lines.specs.declared.line.Mode.{Mode}
-use Rattle.sim_engine.specs.Engine.{Work}
 use Rattle.wasp_session.specs.Checks.{check_count, open_at}
 use Rattle.wasp_session.specs.Modes.{mode_of}
-use Rattle.wasp_session.specs.Said.{plan_count}
+use Rattle.wasp_session.specs.Tasks.{plan_count, task_of}
 use Rattle.wasp_session.specs.State.{State}
 use Rattle.wasp_session.specs.declared.command.Command.{Command}
+use Rattle.wasp_session.specs.declared.command.Command.TheVariants as commands
 use Rattle.wasp4.specs.Progress.{Leads}
 use Rattle.wasp4.specs.Script.{Script, ends, line_behind, line_then, script_behind, stated, stops}
-use Rattle.wasp4.specs.Work.{HasRun}
+use Rattle.wasp4.specs.Going.{Effort, HasRun}
 
 pub no_end : (command : Command) (read : List Line) → script_behind command read [] ≡ stops read (fault kinds.NoEnd 1)
 unfolding script_behind
@@ -34,24 +34,29 @@ line_more command read bytes more = refl
 abbrev pub stated_to : State → List ℕ → Result Line LineFault
 stated_to s bytes = stated (mode_of s.command s.opened) s.plans s.checks bytes
 
+-- the command of a task
+of_task : (command other : Command) → other ≡ (task_of command).command → other ≡ command
+of_task commands.Plan other e = e
+of_task commands.Check other e = e
+
 -- within the number of lines a line is what its bytes state
-within : (command : Command) (read : List Line) (s : State) (said : List ℕ) (w v : Work) (bytes : List ℕ) → length read < 100000 → HasRun command read s said w v → line_behind command read bytes ≡ stated_to s bytes
+within : (command : Command) (read : List Line) (s : State) (said : List ℕ) (w v : Effort) (bytes : List ℕ) → length read < 100000 → HasRun command read s said w v → line_behind command read bytes ≡ stated_to s bytes
 within command read s said w v bytes few r =
     ap (λ (b : Bool). if b then stated (mode_of command (open_at read)) (plan_count read) (check_count read) bytes else Err (fault kinds.ManyLines 1)) (lt-ltb (length read) 100000 few)
-    ∙ ap (λ (c : Command). stated (mode_of c (open_at read)) (plan_count read) (check_count read) bytes) (sym r.command)
-    ∙ (λ i. stated (mode_of s.command (sym r.opened i)) (sym r.plans i) (sym r.checks i) bytes)
+    ∙ ap (λ (c : Command). stated (mode_of c (open_at read)) (plan_count read) (check_count read) bytes) (sym (of_task command s.command r.follows.command))
+    ∙ (λ i. stated (mode_of s.command (sym r.follows.opened i)) (sym r.follows.plans i) (sym r.follows.checks i) bytes)
 
 -- what comes of it
-line_here : (command : Command) (read : List Line) (s : State) (said : List ℕ) (w v : Work) (bytes : List ℕ) (result : Result Line LineFault) → length read < 100000 → HasRun command read s said w v → stated_to s bytes ≡ result
+line_here : (command : Command) (read : List Line) (s : State) (said : List ℕ) (w v : Effort) (bytes : List ℕ) (result : Result Line LineFault) → length read < 100000 → HasRun command read s said w v → stated_to s bytes ≡ result
     → (more : List (List ℕ)) → script_behind command read (bytes ∷ more) ≡ line_then read (λ ls. script_behind command ls more) result
 line_here command read s said w v bytes result few r is more =
     line_more command read bytes more ∙ ap (line_then read (λ ls. script_behind command ls more)) (within command read s said w v bytes few r ∙ is)
 
-pub faulty_here : (command : Command) (read : List Line) (s : State) (said : List ℕ) (w v : Work) (bytes : List ℕ) (f : LineFault) → length read < 100000 → HasRun command read s said w v → stated_to s bytes ≡ Err f
+pub faulty_here : (command : Command) (read : List Line) (s : State) (said : List ℕ) (w v : Effort) (bytes : List ℕ) (f : LineFault) → length read < 100000 → HasRun command read s said w v → stated_to s bytes ≡ Err f
     → (more : List (List ℕ)) → script_behind command read (bytes ∷ more) ≡ stops read f
 faulty_here command read s said w v bytes f few r is more = line_here command read s said w v bytes (Err f) few r is more
 
-pub ends_here : (command : Command) (read : List Line) (s : State) (said : List ℕ) (w v : Work) (bytes : List ℕ) → length read < 100000 → HasRun command read s said w v → stated_to s bytes ≡ Ok lines.End
+pub ends_here : (command : Command) (read : List Line) (s : State) (said : List ℕ) (w v : Effort) (bytes : List ℕ) → length read < 100000 → HasRun command read s said w v → stated_to s bytes ≡ Ok lines.End
     → (more : List (List ℕ)) → script_behind command read (bytes ∷ more) ≡ ends read
 ends_here command read s said w v bytes few r is more = line_here command read s said w v bytes (Ok lines.End) few r is more
 
@@ -66,7 +71,7 @@ then_goes read (lines.Cert l) rest ne = refl
 then_goes read lines.Skip rest ne = refl
 then_goes read lines.EndCheck rest ne = refl
 
-pub goes_on : (command : Command) (read : List Line) (s : State) (said : List ℕ) (w v : Work) (bytes : List ℕ) (line : Line) → length read < 100000 → HasRun command read s said w v → stated_to s bytes ≡ Ok line → line ≢ lines.End
+pub goes_on : (command : Command) (read : List Line) (s : State) (said : List ℕ) (w v : Effort) (bytes : List ℕ) (line : Line) → length read < 100000 → HasRun command read s said w v → stated_to s bytes ≡ Ok line → line ≢ lines.End
     → Leads command read bytes line
 goes_on command read s said w v bytes line few r is ne more =
     line_here command read s said w v bytes (Ok line) few r is more ∙ then_goes read line (λ ls. script_behind command ls more) ne
@@ -76,7 +81,7 @@ long_is : (mode : Mode) (plans checks : ℕ) (bytes : List ℕ) → 4096 < lengt
 unfolding line_of
 long_is mode plans checks bytes long = rw (lt-ltb 4096 (length bytes) long) refl
 
-pub long_here : (command : Command) (read : List Line) (s : State) (said : List ℕ) (w v : Work) (line : List ℕ) (text : Option (List ℕ)) → length read < 100000 → HasRun command read s said w v → 4096 < length line
+pub long_here : (command : Command) (read : List Line) (s : State) (said : List ℕ) (w v : Effort) (line : List ℕ) (text : Option (List ℕ)) → length read < 100000 → HasRun command read s said w v → 4096 < length line
     → IfSome text (λ t. LineBegins t line) → IfSome text (λ t. script_behind command read (lines_of t) ≡ stops read (fault kinds.Long 4097))
 long_here command read s said w v line None few r long begins = tt
 long_here command read s said w v line (Some t) few r long begins =

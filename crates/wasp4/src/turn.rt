@@ -98,6 +98,8 @@ fn answer<E: SimEngine, R: Threads + Sync>(
         → IfOk result (λ turn. AnswersLine command read bytes.now session.new (said ++ text.new.items) start
         (effort_by E.work engines.new session.new.memory.tally) turn) }
 {
+    // Its reading tells the proof that the session is one.
+    let _plans = session.plans();
     match state(alloc, session, bytes) {
         Ok(line) => match session.line(rt, line, engines, text)? {
             Step::Go => Ok(Turn::Goes),

@@ -4,11 +4,13 @@ use Rattle.wasp4.specs.declared.status.Status.{Status}
 use Rattle.wasp4.specs.declared.status.Status.TheVariants as statuses
 use Rattle.wasp4.proofs.Faults.{ended_cause, goes_uncounted, kept_none}
 use Rattle.wasp4.proofs.Progressing.{advanced, answered, answered_past, started, stopped_past, stops_here}
+use Rattle.wasp4.proofs.Running.{taken_none}
 use Rattle.wasp4.proofs.top.read_script.Goals as goal
 
 pub loop-number-init : goal.loop-number-init
 loop-number-init g c = record {
-  so_far = started _ _ _ _ _ _ c.start-clerk.ensures.reader c.start-clerk.ensures.command c.start-clerk.ensures.nos c.start-clerk.ensures.follows;
+  so_far = started _ _ _ _ _ _ c.requires.reader c.requires.session;
+  taken = taken_none _ c.requires.session;
   same = refl;
   source = c.requires.source;
   sink = c.requires.sink;
@@ -26,7 +28,7 @@ returns-in_err-status-clause-err g c =
 pub returns-in-Some-clause-answer : goal.returns-in-Some-clause-answer
 returns-in-Some-clause-answer g c =
     let so_far = c.loop-number.invariant.so_far in
-    let served = rw c.in-Some.is at c.in_ok-status.ensures.serves c.args.command so_far.read so_far.said _ (omega (arith, so_far.count)) so_far.run in
+    let served = rw c.in-Some.is at c.in_ok-status.ensures.serves c.args.clerk.now.session.command so_far.read so_far.said _ (omega (arith, so_far.count)) so_far.run in
     answered _ _ _ _ _ _ _ _ _ _ _ _ _ _ _ so_far served (kept_none _ _ c.in-Some.is c.in_ok-status.ensures.nothing_kept)
 
 pub returns-in-Some-clause-read : goal.returns-in-Some-clause-read
@@ -38,10 +40,11 @@ returns-in-Some-clause-write g c = ended_cause _ _ statuses.WriteFault _ _ _ c.i
 pub loop-number-preserved : goal.loop-number-preserved
 loop-number-preserved g c =
     let so_far = c.loop-number.invariant.so_far in
-    let served = rw c.in_default.is at c.in_ok-status.ensures.serves c.args.command so_far.read so_far.said _ (omega (arith, so_far.count)) so_far.run in
+    let served = rw c.in_default.is at c.in_ok-status.ensures.serves c.args.clerk.now.session.command so_far.read so_far.said _ (omega (arith, so_far.count)) so_far.run in
     let goes = ap (λ (x : Option Status). Ok x) c.in_default.is in
     record {
       so_far = advanced _ _ _ _ _ _ _ _ _ _ _ _ _ so_far served;
+      taken = c.in_ok-status.ensures.taken;
       same = c.serve.auto.engines ∙ c.loop-number.invariant.same;
       source = c.in_ok-status.ensures.source goes;
       sink = c.in_ok-status.ensures.sink goes;
@@ -55,7 +58,7 @@ pub returns-clause-answer : goal.returns-clause-answer
 returns-clause-answer g c =
     let so_far = c.loop-number.invariant.so_far in
     let last : c.loop-number.number ≡ 100000 = omega (arith, c.loop-number-test.false, c.loop-number.auto.number-end) in
-    answered_past _ _ _ _ _ _ _ _ _ _ _ _ _ _ _ so_far (c.serve_past.ensures.serves c.args.command so_far.read so_far.said _ _ (omega (arith, so_far.count, last)) so_far.run) c.serve_past.ensures.nothing_kept
+    rw c.serve_past.ensures.tally (answered_past _ _ _ _ _ _ _ _ _ _ _ _ _ _ _ so_far (c.serve_past.ensures.serves c.args.clerk.now.session.command so_far.read so_far.said _ _ (omega (arith, so_far.count, last)) so_far.run) c.serve_past.ensures.nothing_kept)
 
 pub returns-clause-err : goal.returns-clause-err
 returns-clause-err g c = stopped_past _ _ _ _ g.K.Sink.written _ _ _ _ _ _ _ c.loop-number.invariant.so_far c.serve_past.ensures.err

@@ -1,6 +1,6 @@
-use Rattle.std.proofs.Common.{◌≡◌, false, length, map}
+use Rattle.std.proofs.Common.{◌≡◌, false, length}
 use Rattle.line_reader.specs.Reading.{ahead}
-use Rattle.sim_sweep.specs.Works.{first_work}
+use Rattle.wasp4.specs.Going.{HasTaken, effort_by}
 use Rattle.wasp4.specs.Progress.{Advances}
 use Rattle.wasp4.proofs.top.read_script.Given as goal
 
@@ -10,8 +10,9 @@ invariant-loop-number g l =
     let S = g.S.Source in
     let K = g.K.Sink in
     record {
-      so_far : Advances l.fn.command (S.left l.fn.source) (ahead l.clerk.reader (S.left l.source)) (K.written l.fn.sink) (K.written l.sink) l.clerk.session
-          (first_work (map E.work l.fn.engines)) (first_work (map E.work l.engines)) l.number;
+      so_far : Advances l.fn.clerk.session.command (S.left l.fn.source) (ahead l.clerk.reader (S.left l.source)) (K.written l.fn.sink) (K.written l.sink) l.clerk.session
+          (effort_by E.work l.fn.engines 0) (effort_by E.work l.engines l.clerk.session.memory.tally) l.number;
+      taken : HasTaken l.clerk.session;
       same : length l.engines ≡ length l.fn.engines;
       source : S.ended l.source ≡ false;
       sink : K.failed l.sink ≡ false;

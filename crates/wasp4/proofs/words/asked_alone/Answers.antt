@@ -1,0 +1,14 @@
+use Rattle.std.proofs.Common.{◌≡◌, ◌∙◌, refl, sym, ℕ, false, List, None, codes, arith}
+use Rattle.std.specs.Str.{bytes_eq}
+use Rattle.std.proofs.lemmas.Slice.Eq.{bytes_eq-Decides}
+use Rattle.wasp4.specs.Out.{asked_alone}
+use Rattle.wasp4.proofs.words.asked_alone.Goals as goal
+
+not_same : (xs ys : List ℕ) → (xs ≡ ys → ⊥) → bytes_eq xs ys ≡ false
+not_same xs ys h = grind (arith, bytes_eq-Decides xs ys)
+
+none_asked : (word : List ℕ) → (word ≡ codes "check" → ⊥) → (word ≡ codes "plan" → ⊥) → None ≡ asked_alone word
+none_asked word not_check not_plan = rw (not_same word (codes "plan") not_plan, not_same word (codes "check") not_check) refl
+
+pub returns-in_default : goal.returns-in_default
+returns-in_default c = record { value = none_asked c.args.word.now c.in_default.not-check c.in_default.not-plan; range = tt }
