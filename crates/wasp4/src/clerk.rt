@@ -82,8 +82,10 @@ impl Clerk {
         requires source { S.ended source.old ≡ false }
         requires sink { K.failed sink.old ≡ false }
         ensures taken { OnOk result (HasTaken self.new.session) }
-        ensures serves { (command : Asked) (read : List Stated) (said : List ℕ) (start : Effort) → number ≡ length read + 1
-            → HasRun command read self.old.session said start (effort_by E.work engines.old self.old.session.memory.tally)
+        ensures serves { (command : Asked) (read : List Stated) (said : List ℕ) (start : Effort)
+            → number ≡ length read + 1
+            → HasRun command read self.old.session said start
+            (effort_by E.work engines.old self.old.session.memory.tally)
             → IfOk result (λ served. Serves command (ahead self.old.reader (S.left source.old))
             (ahead self.new.reader (S.left source.new)) (K.written sink.old) (K.written sink.new) read
             self.new.session said start (effort_by E.work engines.new self.new.session.memory.tally) served) }
@@ -127,7 +129,8 @@ impl Clerk {
     ) -> Result<Status, OutOfMemory>
         requires source { S.ended source.old ≡ false }
         requires sink { K.failed sink.old ≡ false }
-        ensures serves { (command : Asked) (read : List Stated) (said : List ℕ) (start now : Effort) → MOST_LINES ≡ length read
+        ensures serves { (command : Asked) (read : List Stated) (said : List ℕ) (start now : Effort)
+            → MOST_LINES ≡ length read
             → HasRun command read self.old.session said start now
             → IfOk result (λ status. Serves command (ahead self.old.reader (S.left source.old))
             (ahead self.new.reader (S.left source.new)) (K.written sink.old) (K.written sink.new) read

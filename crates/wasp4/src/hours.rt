@@ -118,7 +118,8 @@ fn turn<S: Source>(
     requires last { before < MOST_LINES }
     requires source { S.ended source.old ≡ false }
     requires loads { AreLoads loads.old.items }
-    ensures turn { IfOk result (λ turn. LoadsFrom before (ahead reader.old (S.left source.old)) (ahead reader.new (S.left source.new)) loads.old.items loads.new.items turn) }
+    ensures turn { IfOk result (λ turn. LoadsFrom before (ahead reader.old (S.left source.old))
+        (ahead reader.new (S.left source.new)) loads.old.items loads.new.items turn) }
     ensures loads { IfOk result (λ _. AreLoads loads.new.items) }
     ensures ended { result ≡ Ok LoadTurn.Ended → 1 ≤ above loads.new.items 0 }
     ensures source { result ≡ Ok LoadTurn.Goes → S.ended source.new ≡ false }
@@ -149,7 +150,9 @@ fn turn<S: Source>(
 /// What stands behind the last line that there may be.
 fn past_lines<S: Source>(reader: &mut ByteReader, source: &mut S) -> Hours
     requires source { S.ended source.old ≡ false }
-    ensures hours { (before : Option (List ℕ)) (loads : List ℕ) → TakesLoads MOST_LINES before (ahead reader.old (S.left source.old)) loads → HoursFrom before (S.left source.new) result }
+    ensures hours { (before : Option (List ℕ)) (loads : List ℕ)
+        → TakesLoads MOST_LINES before (ahead reader.old (S.left source.old)) loads
+        → HoursFrom before (S.left source.new) result }
     ensures shape { HaveShape result }
     ensures cause { HasCause (S.faults source.old) (S.faults source.new) (result ≡ Hours.Failed) }
     ensures sure { S.sure source.new ≡ S.sure source.old }
@@ -194,7 +197,8 @@ fn answer_loads<S: Source>(
     requires most { points ≤ 64 }
     requires source { S.ended source.old ≡ false }
     requires clear { text.old.items ≡ [] }
-    ensures said { IfOk result (λ ending. HoursSaid points (S.left source.old) (S.left source.new) text.new.items ending) }
+    ensures said { IfOk result (λ ending. HoursSaid points (S.left source.old) (S.left source.new) text.new.items
+        ending) }
     ensures cause { HasCause (S.faults source.old) (S.faults source.new) (result ≡ Ok None) }
     ensures sure { S.sure source.new ≡ S.sure source.old }
 {
@@ -223,7 +227,8 @@ pub(crate) fn run_hours<S: Source, K: Sink>(
     requires most { points ≤ 64 }
     requires source { S.ended source.old ≡ false }
     requires sink { K.failed sink.old ≡ false }
-    ensures hours { AnswersHours points (S.left source.old) (S.left source.new) (K.written sink.old) (K.written sink.new) result }
+    ensures hours { AnswersHours points (S.left source.old) (S.left source.new) (K.written sink.old)
+        (K.written sink.new) result }
     ensures read { HasCause (S.faults source.old) (S.faults source.new) (result ≡ Status.ReadFault) }
     ensures write { HasCause (K.faults sink.old) (K.faults sink.new) (result ≡ Status.WriteFault) }
     ensures sure { S.sure source.new ≡ S.sure source.old }

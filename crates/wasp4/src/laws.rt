@@ -21,7 +21,8 @@ pub fn texts_go_on()
     key_lists_are_one();
 }
 
-/// `plan --workers N` and `plan` write the same bytes and end the same, as any two runs of a command over the same bytes.
+/// `plan --workers N` and `plan` write the same bytes and end the same, as any two runs of a command do over the same
+/// bytes.
 pub fn workers_write_one_text()
     ensures { WorkersWriteOneText }
 {

@@ -38,7 +38,8 @@ fn read_script<E: SimEngine, R: Threads + Sync, S: Source, K: Sink>(
     ensures answer { IfOk result (λ status. Answers clerk.old.session.command (S.left source.old) (S.left source.new)
         (K.written sink.old) (K.written sink.new) (effort_by E.work engines.old 0)
         (effort_by E.work engines.new clerk.new.session.memory.tally) status) }
-    ensures err { OnErr result (StopsWithin clerk.old.session.command (S.left source.old) (K.written sink.old) (K.written sink.new)) }
+    ensures err { OnErr result (StopsWithin clerk.old.session.command (S.left source.old) (K.written sink.old)
+        (K.written sink.new)) }
     ensures read { HasCause (S.faults source.old) (S.faults source.new) (result ≡ Ok Status.ReadFault) }
     ensures write { HasCause (K.faults sink.old) (K.faults sink.new) (result ≡ Ok Status.WriteFault) }
     ensures sure { S.sure source.new ≡ S.sure source.old }
@@ -100,7 +101,8 @@ fn run_script<E: SimEngine, R: Threads + Sync, S: Source, K: Sink>(
     // Then nothing is read or simulated, and the usage line is written, or a front of it where the sink failed.
     ensures unread { result ≡ Status.BadWords → source.new ≡ source.old }
     ensures idle { result ≡ Status.BadWords → (engines.new ≡ engines.old) × (tally.new ≡ tally.old) }
-    ensures usage { result ≡ Status.BadWords → SaysUsage (K.written sink.old) (K.written sink.new) (K.faults sink.old) (K.faults sink.new) }
+    ensures usage { result ≡ Status.BadWords
+        → SaysUsage (K.written sink.old) (K.written sink.new) (K.faults sink.old) (K.faults sink.new) }
 
     // The headline: what is written is the text that the lines define, and each key was simulated once by one of the
     // engines that the words ask for. The others are as before.
@@ -113,7 +115,8 @@ fn run_script<E: SimEngine, R: Threads + Sync, S: Source, K: Sink>(
 
     // A count of faults rises by the fault that is answered alone.
     ensures read { HasCause (S.faults source.old) (S.faults source.new) (result ≡ Status.ReadFault) }
-    ensures write { (result ≡ Status.BadWords → ⊥) → HasCause (K.faults sink.old) (K.faults sink.new) (result ≡ Status.WriteFault) }
+    ensures write { (result ≡ Status.BadWords → ⊥)
+        → HasCause (K.faults sink.old) (K.faults sink.new) (result ≡ Status.WriteFault) }
     ensures sure { S.sure source.new ≡ S.sure source.old }
     ensures sure_room { K.sure_room sink.new ≡ K.sure_room sink.old }
     ensures never_read_fault { IsTrue (S.sure source.old) → (result ≡ Status.ReadFault) → ⊥ }
@@ -138,24 +141,27 @@ fn run_script<E: SimEngine, R: Threads + Sync, S: Source, K: Sink>(
     }
 }
 
-/// Plans by a script, checks the certificates in one, or makes a shape of hourly loads: reads the lines from the source
-/// and writes the text that they define to the sink.
+/// Plans by a script, checks the certificates in one, or makes a shape of hourly loads: reads the lines from the
+/// source and writes the text that they define to the sink.
 ///
-/// For a script the words are the one word `plan` or `check`, and the first engine works. Neither the source nor the sink has failed
-/// or ended before. With accepted words, bytes told and no rise of either count of faults the status is `Done`,
-/// `CheckNo` or `Malformed` (or `OutOfMemory`), and the sink has gained exactly the text defined from the bytes that the
-/// source had left: for each PLAN line its report or its refusal, or for each CHECK at its ENDCHECK what is said of its
-/// certificate, on the deck as edited so far, and the closing. `CheckNo` comes exactly where the script was read to its
-/// END and a check said NO. The engine has then simulated each key that the lines demand once and nothing else, and
-/// their number is the one that is printed; its counts rise run by run, and one that is at the last value of a `u64`
-/// stays there. After `ReadFault` the sink has gained the text of the lines taken whole, after `OutOfMemory` a front of
-/// what is told of the script's first lines or of the whole text, after `WriteFault` such a front with more to come, at
-/// `BadWords`, also where there is no engine, the usage line or a front of it. A sure source is never the cause of a
-/// `ReadFault`, and a sink whose sure room holds all that is to be written never that of a `WriteFault`.
+/// For a script the words are `plan`, `plan --workers N` with N from 1 to 64, or `check`, and the first N engines
+/// work, or the first alone; the text does not depend on N. Neither the source nor the sink has failed or ended
+/// before. With accepted words, bytes told and no rise of either count of faults the status is `Done`, `CheckNo` or
+/// `Malformed` (or `OutOfMemory`), and the sink has gained exactly the text defined from the bytes that the source
+/// had left: for each PLAN line its report or its refusal, or for each CHECK at its ENDCHECK what is said of its
+/// certificate, on the deck as edited so far, and the closing. `CheckNo` comes exactly where the script was read to
+/// its END and a check said NO. The engines have then simulated each key that the lines demand once, by one of them,
+/// and nothing else, the first has detailed the chosen years, and the tally rose by the number of the keys, which is
+/// printed; counts rise run by run, and one that is at the last value of a `u64` stays there. After `ReadFault` the
+/// sink has gained the text of the lines taken whole, after `OutOfMemory` a front of what is told of the script's
+/// first lines or of the whole text, after `WriteFault` such a front with more to come, at `BadWords`, also where
+/// there is no engine, the usage line or a front of it. A sure source is never the cause of a `ReadFault`, and a sink
+/// whose sure room holds all that is to be written never that of a `WriteFault`.
 ///
-/// For hourly loads the words are `hours N`, with N from 2 to 64. No engine works, and none is asked for. The whole text,
-/// which is the shape of the loads up to END in N points, or the first line with a fault, is put once reading has ended:
-/// after `ReadFault` and `OutOfMemory` nothing of it was written, after `WriteFault` a front with more to come.
+/// For hourly loads the words are `hours N`, with N from 2 to 64. No engine works, and none is asked for. The whole
+/// text, which is the shape of the loads up to END in N points, or the first line with a fault, is put once reading
+/// has ended: after `ReadFault` and `OutOfMemory` nothing of it was written, after `WriteFault` a front with more to
+/// come.
 ///
 /// `docs/FORMATS.md` has the lines.
 pub fn run<E: SimEngine, R: Threads + Sync, S: Source, K: Sink>(
@@ -169,12 +175,14 @@ pub fn run<E: SimEngine, R: Threads + Sync, S: Source, K: Sink>(
 ) -> Status
     requires source { S.ended source.old ≡ false }
     requires sink { K.failed sink.old ≡ false }
-    ensures words { (result ≡ Status.BadWords) ↔ ((spec.accepted words.now (length engines.old) ≡ None) × (spec.hours_points words.now ≡ None)) }
+    ensures words { (result ≡ Status.BadWords) ↔ ((spec.accepted words.now (length engines.old) ≡ None)
+        × (spec.hours_points words.now ≡ None)) }
 
     // Then nothing is read or simulated, and the usage line is written, or a front of it where the sink failed.
     ensures unread { result ≡ Status.BadWords → source.new ≡ source.old }
     ensures idle { result ≡ Status.BadWords → (engines.new ≡ engines.old) × (tally.new ≡ tally.old) }
-    ensures usage { result ≡ Status.BadWords → SaysUsage (K.written sink.old) (K.written sink.new) (K.faults sink.old) (K.faults sink.new) }
+    ensures usage { result ≡ Status.BadWords
+        → SaysUsage (K.written sink.old) (K.written sink.new) (K.faults sink.old) (K.faults sink.new) }
 
     // The headline: what is written is the text that the lines define, and each key was simulated once by one of the
     // engines that the words ask for. The others are as before.
@@ -182,8 +190,9 @@ pub fn run<E: SimEngine, R: Threads + Sync, S: Source, K: Sink>(
         (S.left source.old) (S.left source.new) (K.written sink.old) (K.written sink.new)
         E.work engines.old engines.new tally.old tally.new result }
 
-    // Of hourly loads: what is written is the text of their shape, or of the first line with a fault, and no engine works.
-    ensures hours { (points : ℕ) → spec.hours_points words.now ≡ Some points → AnswersHours points (S.left source.old) (S.left source.new) (K.written sink.old) (K.written sink.new) result }
+    // Of hourly loads: what is written is the text of their shape, or of the first line with a fault. No engine works.
+    ensures hours { (points : ℕ) → spec.hours_points words.now ≡ Some points
+        → AnswersHours points (S.left source.old) (S.left source.new) (K.written sink.old) (K.written sink.new) result }
     ensures no_engine { (points : ℕ) → spec.hours_points words.now ≡ Some points
         → (engines.new ≡ engines.old) × (tally.new ≡ tally.old) }
     ensures engines { length engines.new ≡ length engines.old }
@@ -192,14 +201,17 @@ pub fn run<E: SimEngine, R: Threads + Sync, S: Source, K: Sink>(
 
     // A count of faults rises by the fault that is answered alone.
     ensures read { HasCause (S.faults source.old) (S.faults source.new) (result ≡ Status.ReadFault) }
-    ensures write { (result ≡ Status.BadWords → ⊥) → HasCause (K.faults sink.old) (K.faults sink.new) (result ≡ Status.WriteFault) }
+    ensures write { (result ≡ Status.BadWords → ⊥)
+        → HasCause (K.faults sink.old) (K.faults sink.new) (result ≡ Status.WriteFault) }
     ensures sure { S.sure source.new ≡ S.sure source.old }
     ensures sure_room { K.sure_room sink.new ≡ K.sure_room sink.old }
     ensures never_read_fault { IsTrue (S.sure source.old) → (result ≡ Status.ReadFault) → ⊥ }
     ensures never_write_fault { (asked : Asked) → spec.accepted words.now (length engines.old) ≡ Some asked
         → HasRoomFor (spec.command_of asked) (S.left source.old) (K.written sink.old) (K.sure_room sink.old)
         → (result ≡ Status.WriteFault) → ⊥ }
-    ensures never_cut { (points : ℕ) → spec.hours_points words.now ≡ Some points → HasRoomForHours points (S.left source.old) (K.written sink.old) (K.sure_room sink.old) → (result ≡ Status.WriteFault) → ⊥ }
+    ensures never_cut { (points : ℕ) → spec.hours_points words.now ≡ Some points
+        → HasRoomForHours points (S.left source.old) (K.written sink.old) (K.sure_room sink.old)
+        → (result ≡ Status.WriteFault) → ⊥ }
 {
     match words.points() {
         Some(points) => run_hours(alloc, points, source, sink),

@@ -42,7 +42,8 @@ pub(crate) fn refuse(
     fault: &LineFault,
     text: &mut Vec<u8>,
 ) -> Result<(), OutOfMemory>
-    ensures { OnOk result (text.new.items ≡ (text.old.items ++ malformed_line number fault.now) ++ keys_line (length session.now.memory.shelf.kept)) }
+    ensures { OnOk result (text.new.items
+        ≡ (text.old.items ++ malformed_line number fault.now) ++ keys_line (length session.now.memory.shelf.kept)) }
 {
     write_malformed(number, fault, text)?;
     write_keys(session.keys(), text)
@@ -50,7 +51,8 @@ pub(crate) fn refuse(
 
 /// Whether the line is one PLAN or CHECK more than a script may have.
 fn is_past(session: &Session, line: &Line) -> bool
-    ensures { within_counts session.now.plans session.now.checks line.now ≡ (if result then Err (fault kinds.Many 1) else Ok line.now) }
+    ensures { within_counts session.now.plans session.now.checks line.now
+        ≡ (if result then Err (fault kinds.Many 1) else Ok line.now) }
 {
     match line {
         Line::Plan => MOST_PLANS <= session.plans(),
@@ -61,7 +63,8 @@ fn is_past(session: &Session, line: &Line) -> bool
 
 /// The line that bytes are behind those that the session has gone through.
 fn state(alloc: Global, session: &Session, bytes: &[u8]) -> Result<Line, LineError>
-    ensures exact { Gives (λ l. l) result (stated (mode_of session.now.command session.now.opened) session.now.plans session.now.checks bytes.now) }
+    ensures exact { Gives (λ l. l) result
+        (stated (mode_of session.now.command session.now.opened) session.now.plans session.now.checks bytes.now) }
     ensures in_form { IfOk result (λ l. IsLine l) }
     ensures of_mode { IfOk result (λ l. IsOfMode (mode_of session.now.command session.now.opened) l) }
     ensures plans { result ≡ Ok lines.Plan → session.now.plans < 64 }
@@ -93,7 +96,8 @@ fn answer<E: SimEngine, R: Threads + Sync>(
     requires most { length engines.old ≤ 64 }
     requires taken { HasTaken session.old }
     ensures taken { OnOk result (HasTaken session.new) }
-    ensures answer { (command : Command) (read : List Stated) (said : List ℕ) (start : Effort) → number ≡ length read + 1
+    ensures answer { (command : Command) (read : List Stated) (said : List ℕ) (start : Effort)
+        → number ≡ length read + 1
         → HasRun command read session.old said start (effort_by E.work engines.old session.old.memory.tally)
         → IfOk result (λ turn. AnswersLine command read bytes.now session.new (said ++ text.new.items) start
         (effort_by E.work engines.new session.new.memory.tally) turn) }
@@ -116,7 +120,9 @@ fn answer<E: SimEngine, R: Threads + Sync>(
 
 /// Says that line `number` is missing, and how many keys there were.
 fn refuse_end(session: &Session, number: u64, text: &mut Vec<u8>) -> Result<(), OutOfMemory>
-    ensures { OnOk result (text.new.items ≡ (text.old.items ++ malformed_line number (record { kind = LineKind.NoEnd; column = 1 })) ++ keys_line (length session.now.memory.shelf.kept)) }
+    ensures { OnOk result (text.new.items
+        ≡ (text.old.items ++ malformed_line number (record { kind = LineKind.NoEnd; column = 1 })) ++ keys_line
+        (length session.now.memory.shelf.kept)) }
 {
     let fault = LineFault {
         kind: LineKind::NoEnd,
@@ -146,7 +152,9 @@ pub(crate) fn turn<E: SimEngine, R: Threads + Sync, S: Source>(
     ensures taken { OnOk result (HasTaken session.new) }
     ensures turn { (command : Command) (read : List Stated) (said : List ℕ) (start : Effort) → number ≡ length read + 1
         → HasRun command read session.old said start (effort_by E.work engines.old session.old.memory.tally)
-        → IfOk result (λ turn. TurnFrom command (ahead reader.old (S.left source.old)) (ahead reader.new (S.left source.new)) read session.new said text.new.items start (effort_by E.work engines.new session.new.memory.tally) turn) }
+        → IfOk result (λ turn. TurnFrom command (ahead reader.old (S.left source.old))
+        (ahead reader.new (S.left source.new)) read session.new said text.new.items start
+        (effort_by E.work engines.new session.new.memory.tally) turn) }
     ensures source { result ≡ Ok (Some Turn.Goes) → S.ended source.new ≡ false }
     ensures cause { HasCause (S.faults source.old) (S.faults source.new) (result ≡ Ok None) }
     ensures sure { S.sure source.new ≡ S.sure source.old }
@@ -186,8 +194,10 @@ pub(crate) fn past_lines<S: Source>(
 ) -> Result<Option<Turn>, OutOfMemory>
     requires source { S.ended source.old ≡ false }
     requires clear { text.old.items ≡ [] }
-    ensures turn { (command : Command) (read : List Stated) (said : List ℕ) (start now : Effort) → MOST_LINES ≡ length read → HasRun command read session.now said start now
-        → IfOk result (λ turn. TurnFrom command (ahead reader.old (S.left source.old)) (ahead reader.new (S.left source.new)) read session.now said text.new.items start now turn) }
+    ensures turn { (command : Command) (read : List Stated) (said : List ℕ) (start now : Effort)
+        → MOST_LINES ≡ length read → HasRun command read session.now said start now
+        → IfOk result (λ turn. TurnFrom command (ahead reader.old (S.left source.old))
+        (ahead reader.new (S.left source.new)) read session.now said text.new.items start now turn) }
     ensures over { result ≢ Ok (Some Turn.Goes) }
     ensures cause { HasCause (S.faults source.old) (S.faults source.new) (result ≡ Ok None) }
     ensures sure { S.sure source.new ≡ S.sure source.old }

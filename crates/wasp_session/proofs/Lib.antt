@@ -1,6 +1,11 @@
+mod AcceptedSteps
 mod ApartSteps
+mod CaseStudies
+mod CaseTellings
 mod CheckSteps
+mod DetailSteps
 pub mod FollowSteps
+mod GenerationSteps
 mod LearnSteps
 mod LineSteps
 mod ListSteps
@@ -11,7 +16,10 @@ mod OnenessKeys
 mod OnenessReports
 mod OnenessTellings
 mod OverSteps
+mod PlanSteps
 mod PlanTold
+mod PrintSteps
+mod ReportSteps
 mod ResultSteps
 mod SettleSteps
 mod ShelfSteps
@@ -20,3 +28,4 @@ mod TellBehind
 pub mod TellSteps
 mod Wanting
 mod WhereErr
+mod YearSteps

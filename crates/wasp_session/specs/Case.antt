@@ -1,6 +1,6 @@
--- The report of a case of a deck under tunnels: the table of its accepted configurations, the solution of this table, and the
--- years of the chosen plan with their tunnels, terms, rows and generations. After the modules MERSIM, DYNPRO and
--- REPROBAT of the IAEA's Computer Manual Series No. 16.
+-- The report of a case of a deck under tunnels: the table of its accepted configurations, the solution of this table,
+-- and the years of the chosen plan with their tunnels, terms, rows and generations. After the modules MERSIM, DYNPRO
+-- and REPROBAT of the IAEA's Computer Manual Series No. 16.
 use Rattle.std.specs.Prelude.{◌≡◌, ◌==◌, ℕ, ◌+◌, ◌-◌, ◌<◌, List, [], ◌∷◌, length, map, nat_lt, Option, None, slice_index, slice_index_or, if◌then◌else◌}
 use Rattle.std.specs.List.{filter_map, range_with_len}
 use Rattle.std.specs.Option.{option_map}

@@ -27,8 +27,8 @@ use std::thread::Threads;
 use tunnel_configs::listings_are_one;
 use wasp_fixed::OutOfMemory;
 
-/// The table of a case under the deck's own tunnels, or its first year over a limit. The rows of its keys are then kept;
-/// those that are new are simulated, each once. Nothing is planned.
+/// The table of a case under the deck's own tunnels, or its first year over a limit. The rows of its keys are then
+/// kept; those that are new are simulated, each once. Nothing is planned.
 fn answer_case<E: SimEngine, R: Threads + Sync>(
     alloc: Global,
     rt: &R,
@@ -42,7 +42,8 @@ fn answer_case<E: SimEngine, R: Threads + Sync>(
     requires low { 1 ≤ case }
     requires high { case ≤ says.cases (body_of typed.now) }
     requires place { HasPlaceFor 120000 memory.old }
-    ensures answer { IfOk result (λ answer. IsAnswerUnder (body_of typed.now) case (deck_tunnels (body_of typed.now) case) answer) }
+    ensures answer { IfOk result (λ answer. IsAnswerUnder (body_of typed.now) case
+        (deck_tunnels (body_of typed.now) case) answer) }
     ensures learns { OnOk result (Learns (AreWithin (body_of typed.now) case (deck_tunnels (body_of typed.now) case))
         (DemandsUnder (body_of typed.now) case (deck_tunnels (body_of typed.now) case)) (body_of typed.now)
         memory.old memory.new E.work engines.old engines.new 0) }
@@ -80,9 +81,11 @@ fn judge_typed<E: SimEngine, R: Threads + Sync>(
     requires most { length engines.old ≤ 64 }
     requires place { HasPlaceFor 120000 memory.old }
     ensures judged { IfOk result (λ judged. IsJudged (body_of typed.now) opened.now judged) }
-    ensures learns { OnOk result (Learns (IsChecked (body_of typed.now) opened.now) (DemandsChecked (body_of typed.now) opened.now)
+    ensures learns { OnOk result (Learns (IsChecked (body_of typed.now) opened.now)
+        (DemandsChecked (body_of typed.now) opened.now)
         (body_of typed.now) memory.old memory.new E.work engines.old engines.new 0) }
-    ensures err { OnErr result (IsLost (IsChecked (body_of typed.now) opened.now) (DemandsChecked (body_of typed.now) opened.now)
+    ensures err { OnErr result (IsLost (IsChecked (body_of typed.now) opened.now)
+        (DemandsChecked (body_of typed.now) opened.now)
         (body_of typed.now) memory.old memory.new E.work engines.old engines.new) }
 {
     // Its reading tells the proof that the deck meets no row of the fault table.
@@ -117,9 +120,11 @@ pub(crate) fn judge_deck<E: SimEngine, R: Threads + Sync>(
     requires most { length engines.old ≤ 64 }
     requires place { HasPlaceFor 120000 memory.old }
     ensures judged { IfOk result (λ judged. IsJudged (body_of deck.now) opened.now judged) }
-    ensures learns { OnOk result (Learns (IsChecked (body_of deck.now) opened.now) (DemandsChecked (body_of deck.now) opened.now)
+    ensures learns { OnOk result (Learns (IsChecked (body_of deck.now) opened.now)
+        (DemandsChecked (body_of deck.now) opened.now)
         (body_of deck.now) memory.old memory.new E.work engines.old engines.new 0) }
-    ensures err { OnErr result (IsLost (IsChecked (body_of deck.now) opened.now) (DemandsChecked (body_of deck.now) opened.now)
+    ensures err { OnErr result (IsLost (IsChecked (body_of deck.now) opened.now)
+        (DemandsChecked (body_of deck.now) opened.now)
         (body_of deck.now) memory.old memory.new E.work engines.old engines.new) }
 {
     faults_are_met();

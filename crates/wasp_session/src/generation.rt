@@ -56,8 +56,11 @@ fn push_generation(
     energy: u64,
     generations: &mut Vec<Generation>,
 ) -> Result<(), OutOfMemory>
-    ensures pushed { OnOk result (generations.new.items ≡ generations.old.items ++ filter_map (λ (k : ℕ). generation_of (body_of typed.now) id standing energy) (0 ∷ [])) }
-    ensures printable { OnOk result (All IsPrintableGeneration generations.old.items → All IsPrintableGeneration generations.new.items) }
+    ensures pushed { OnOk result (generations.new.items
+        ≡ generations.old.items ++ filter_map (λ (k : ℕ). generation_of (body_of typed.now) id standing energy)
+        (0 ∷ [])) }
+    ensures printable { OnOk result (All IsPrintableGeneration generations.old.items
+        → All IsPrintableGeneration generations.new.items) }
 {
     if standing == 0 {
         return Ok(());
@@ -82,8 +85,11 @@ fn name_generations(
     energies: &[u64],
 ) -> Result<Generations, OutOfMemory>
     requires fits { Fits system.now config.now }
-    requires places { length energies.now ≡ length system.now.existing + length system.now.thermal + length system.now.groups }
-    ensures value { IfOk result (λ gs. gs ≡ filter_map (generation_at (body_of typed.now) system.now config.now energies.now) (range_with_len 0 (length energies.now))) }
+    requires places { length energies.now
+        ≡ length system.now.existing + length system.now.thermal + length system.now.groups }
+    ensures value { IfOk result (λ gs. gs
+        ≡ filter_map (generation_at (body_of typed.now) system.now config.now energies.now)
+        (range_with_len 0 (length energies.now))) }
     ensures printable { IfOk result (λ gs. All IsPrintableGeneration gs) }
 {
     let mut generations = Vec::new(alloc);

@@ -66,7 +66,8 @@ fn list_year(
     requires system { IsYearSystem (body_of typed.now) year system.now }
     requires tunnel { IsTunnelOf (says.greatest (body_of typed.now)) tunnel.now }
     ensures list { IfOk result (λ configs. IsYearList (body_of typed.now) case year tunnel.now configs) }
-    ensures over { (r : Refused) → IsErrOf result (ListError.Over r) → IsOver (body_of typed.now) case year tunnel.now r }
+    ensures over { (r : Refused) → IsErrOf result (ListError.Over r)
+        → IsOver (body_of typed.now) case year tunnel.now r }
 {
     let margin = typed.margin(case, year);
     match configs(alloc, system, tunnel, &margin) {
@@ -145,7 +146,8 @@ fn list_own(
     requires low { 1 ≤ case }
     requires high { case ≤ says.cases (body_of typed.now) }
     requires systems { AreSystems (body_of typed.now) systems.now }
-    ensures lists { IfOk result (λ lists. AreYearLists (body_of typed.now) case (deck_tunnels (body_of typed.now) case) lists) }
+    ensures lists { IfOk result (λ lists. AreYearLists (body_of typed.now) case
+        (deck_tunnels (body_of typed.now) case) lists) }
     ensures fit { IfOk result (λ lists. FitYears (body_of typed.now) lists) }
     ensures over { (r : Refused) → IsErrOf result (ListError.Over r)
         → IsOverIn (body_of typed.now) case (deck_tunnels (body_of typed.now) case) r }

@@ -62,8 +62,8 @@ impl Memory {
         tally
     }
 
-    /// Gives the systems of a deck's years numbers, and has the rows of the listed keys: the engines simulate those that
-    /// are new, each once.
+    /// Gives the systems of a deck's years numbers, and has the rows of the listed keys: the engines simulate those
+    /// that are new, each once.
     pub(crate) fn learn<E: SimEngine, R: Threads + Sync>(
         &mut self,
         rt: &R,

@@ -41,8 +41,7 @@ fn tell_case<E: SimEngine>(
     ensures gone { HaveDetailed (E.work engine.old ∷ []) (E.work engine.new ∷ []) }
     ensures goes_on { GoesOn text.old text.new }
 {
-    // Its reading tells the proof that the deck has no fault. By the laws the report is accepted as a certificate.
-    let _years = study.typed().years();
+    // By these laws the report is accepted as a certificate.
     reports_read_back();
     solutions_are_certified();
     readings_are_one();
@@ -93,10 +92,7 @@ fn tell_by_first<E: SimEngine>(
     ensures gone { HaveDetailed (map E.work engines.old) (map E.work engines.new) }
     ensures goes_on { GoesOn text.old text.new }
 {
-    match engines.split_first_mut() {
-        Some((first, _)) => tell_cases(alloc, plan, shelf, first, text),
-        None => unreachable!(),
-    }
+    tell_cases(alloc, plan, shelf, &mut engines[0], text)
 }
 
 /// Plans a deck without a fault, or tells the first case and year over a limit.
@@ -111,7 +107,8 @@ fn plan_typed<E: SimEngine, R: Threads + Sync>(
     requires some { 1 ≤ length engines.old }
     requires most { length engines.old ≤ 64 }
     requires place { HasPlaceFor 120000 memory.old }
-    ensures told { OnOk result (Tells (IsDeckTold (body_of typed.now)) (IsTaken (body_of typed.now)) (Demands (body_of typed.now))
+    ensures told { OnOk result (Tells (IsDeckTold (body_of typed.now)) (IsTaken (body_of typed.now))
+        (Demands (body_of typed.now))
         (body_of typed.now) memory.old memory.new E.work engines.old engines.new text.old text.new 0) }
     ensures err { OnErr result (IsLost (IsTaken (body_of typed.now)) (Demands (body_of typed.now)) (body_of typed.now)
         memory.old memory.new E.work engines.old engines.new) }
@@ -144,7 +141,8 @@ pub(crate) fn plan_deck<E: SimEngine, R: Threads + Sync>(
     requires some { 1 ≤ length engines.old }
     requires most { length engines.old ≤ 64 }
     requires place { HasPlaceFor 120000 memory.old }
-    ensures told { OnOk result (Tells (IsDeckTold (body_of deck.now)) (IsTaken (body_of deck.now)) (Demands (body_of deck.now))
+    ensures told { OnOk result (Tells (IsDeckTold (body_of deck.now)) (IsTaken (body_of deck.now))
+        (Demands (body_of deck.now))
         (body_of deck.now) memory.old memory.new E.work engines.old engines.new text.old text.new 0) }
     ensures err { OnErr result (IsLost (IsTaken (body_of deck.now)) (Demands (body_of deck.now)) (body_of deck.now)
         memory.old memory.new E.work engines.old engines.new) }

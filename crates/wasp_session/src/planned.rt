@@ -45,7 +45,7 @@ fn entry_in(layer: &[Scored], config: &Config) -> Scored
 struct PlanStep<'a> {
     economy: &'a Economy,
     before: &'a Config,
-    entry: &'a Scored,
+    chosen: &'a Scored,
 }
 
 /// The planned year of a place, counted from 0.
@@ -63,19 +63,23 @@ fn plan_year<E: SimEngine>(
     requires years { place < step.economy.now.years }
     requires width { candidate_counts step.economy.now ≡ says.greatest (body_of study.now.deck) }
     requires before { Fits step.economy.now step.before.now }
-    requires entry { IsEntry step.economy.now step.entry.now }
-    requires grows { IsAtMost step.before.now step.entry.now.config }
-    requires row { step.entry.now.row ≡ row_of (systems.system (body_of study.now.deck) (place + 1)) step.entry.now.config }
-    ensures year { IfOk result (λ y. IsYearOf (body_of study.now.deck) (place + 1) study.now.tunnels step.before.now y) }
-    ensures config { IfOk result (λ y. y.config ≡ step.entry.now.config) }
+    requires entry { IsEntry step.economy.now step.chosen.now }
+    requires grows { IsAtMost step.before.now step.chosen.now.config }
+    requires row { step.chosen.now.row ≡
+        row_of (systems.system (body_of study.now.deck) (place + 1)) step.chosen.now.config }
+    ensures year { IfOk result (λ y.
+        IsYearOf (body_of study.now.deck) (place + 1) study.now.tunnels step.entry.before.now y) }
+    ensures config { IfOk result (λ y. y.config ≡ step.entry.chosen.now.config) }
     ensures widths { IfOk result (λ y. HasWidths (says.greatest (body_of study.now.deck)) y) }
     ensures printable { IfOk result (λ y. IsPrintableYear y) }
     ensures detailed { OnOk result ((E.work engine.new).detailed ≡ counted (E.work engine.old).detailed) }
     ensures work { OnlyDetails (E.work engine.old) (E.work engine.new) }
     ensures gone { HaveDetailed (E.work engine.old ∷ []) (E.work engine.new ∷ []) }
 {
+    // Its reading tells the proof that there are at most 30 years.
+    let _years = study.typed().years();
     let year = place as u64 + 1;
-    let entry = step.entry;
+    let entry = step.chosen;
     Ok(PlanYear {
         config: entry.config,
         tunnel: study.tunnels()[place],
@@ -87,6 +91,7 @@ fn plan_year<E: SimEngine>(
 }
 
 /// The years of the plan of a case's table.
+#[tactic(auto, using(crate::proofs::DetailSteps::detailed_none))]
 pub(crate) fn plan_years<E: SimEngine>(
     alloc: Global,
     study: &Study,
@@ -99,11 +104,13 @@ pub(crate) fn plan_years<E: SimEngine>(
     requires table { IsTableOf (body_of study.now.deck) study.now.case study.now.tunnels table.now }
     requires width { candidate_counts table.now.economy ≡ says.greatest (body_of study.now.deck) }
     requires chosen { (total : ℕ) × IsPlanOf table.now configs.now total }
-    ensures years { IfOk result (λ ys. AreYearsFrom (body_of study.now.deck) 1 study.now.tunnels (nothing_built (costs (body_of study.now.deck))) ys) }
+    ensures years { IfOk result (λ ys.
+        AreYearsFrom (body_of study.now.deck) 1 study.now.tunnels (nothing_built (costs (body_of study.now.deck))) ys) }
     ensures configs { IfOk result (λ ys. map (λ y. y.config) ys ≡ configs.now) }
     ensures widths { IfOk result (λ ys. All (HasWidths (says.greatest (body_of study.now.deck))) ys) }
     ensures printable { IfOk result (λ ys. All IsPrintableYear ys) }
-    ensures detailed { OnOk result ((E.work engine.new).detailed ≡ raised (length configs.now) (E.work engine.old).detailed) }
+    ensures detailed { OnOk result ((E.work engine.new).detailed
+        ≡ raised (length configs.now) (E.work engine.old).detailed) }
     ensures work { OnlyDetails (E.work engine.old) (E.work engine.new) }
     ensures gone { HaveDetailed (E.work engine.old ∷ []) (E.work engine.new ∷ []) }
 {
@@ -116,7 +123,7 @@ pub(crate) fn plan_years<E: SimEngine>(
         let step = PlanStep {
             economy,
             before: &before,
-            entry: &entry,
+            chosen: &entry,
         };
         years.push(plan_year(alloc, study, shelf, k, step, engine)?)?;
         before = configs[k];

@@ -53,6 +53,7 @@ fn conditions_of(economy: &Economy) -> u64
 }
 
 /// The years of the plan, where there is one.
+#[tactic(auto, using(crate::proofs::DetailSteps::detailed_none))]
 fn years_of<E: SimEngine>(
     alloc: Global,
     study: &Study,
@@ -65,11 +66,13 @@ fn years_of<E: SimEngine>(
     requires table { IsTableOf (body_of study.now.deck) study.now.case study.now.tunnels table.now }
     requires width { candidate_counts table.now.economy ≡ says.greatest (body_of study.now.deck) }
     requires outcome { IsOutcome table.now outcome.now }
-    ensures years { IfOk result (λ ys. AreYearsFrom (body_of study.now.deck) 1 study.now.tunnels (nothing_built (costs (body_of study.now.deck))) ys) }
+    ensures years { IfOk result (λ ys.
+        AreYearsFrom (body_of study.now.deck) 1 study.now.tunnels (nothing_built (costs (body_of study.now.deck))) ys) }
     ensures plan { IfOk result (λ ys. map (λ y. y.config) ys ≡ plan_of outcome.now) }
     ensures widths { IfOk result (λ ys. All (HasWidths (says.greatest (body_of study.now.deck))) ys) }
     ensures printable { IfOk result (λ ys. All IsPrintableYear ys) }
-    ensures detailed { IfOk result (λ ys. (E.work engine.new).detailed ≡ raised (length ys) (E.work engine.old).detailed) }
+    ensures detailed { IfOk result (λ ys. (E.work engine.new).detailed
+        ≡ raised (length ys) (E.work engine.old).detailed) }
     ensures work { OnlyDetails (E.work engine.old) (E.work engine.new) }
     ensures gone { HaveDetailed (E.work engine.old ∷ []) (E.work engine.new ∷ []) }
 {
@@ -93,16 +96,19 @@ pub(crate) fn report_case<E: SimEngine>(
     requires table { IsTableOf (body_of study.now.deck) study.now.case study.now.tunnels done.table }
     requires width { candidate_counts done.table.economy ≡ says.greatest (body_of study.now.deck) }
     requires solution { IsSolution done.table done.solved }
-    ensures report { IfOk result (λ report. IsReportOf (body_of study.now.deck) study.now.case study.now.tunnels report) }
+    ensures report { IfOk result (λ report.
+        IsReportOf (body_of study.now.deck) study.now.case study.now.tunnels report) }
     ensures in_form { IfOk result (λ report. IsCaseReport report) }
     ensures table { IfOk result (λ report. IsTable report.table) }
     ensures printable { IfOk result (λ report. IsPrintable study.now.case report) }
-    ensures detailed { IfOk result (λ report. (E.work engine.new).detailed ≡ raised (length report.years) (E.work engine.old).detailed) }
+    ensures detailed { IfOk result (λ report. (E.work engine.new).detailed
+        ≡ raised (length report.years) (E.work engine.old).detailed) }
     ensures work { OnlyDetails (E.work engine.old) (E.work engine.new) }
     ensures gone { HaveDetailed (E.work engine.old ∷ []) (E.work engine.new ∷ []) }
 {
-    // Its reading tells the proof that there is a year.
+    // Their readings tell the proof that there is a year, and that the case is a number of 64 bits.
     let _years = study.typed().years();
+    let _case = study.case();
     let (table, solved) = done.into_parts();
     let years = years_of(alloc, study, shelf, &table, &solved.outcome, engine)?;
     let greatest = greatest_of(shelf.system(study.ids()[0]));

@@ -160,7 +160,8 @@ impl Session {
         requires some { 1 ≤ length engines.old }
         requires most { length engines.old ≤ 64 }
         requires place { HasPlaceFor 120000 self.old.memory }
-        ensures told { OnOk result (Tells (IsPlanTold self.old.plans (body_of self.old.deck)) (IsTaken (body_of self.old.deck))
+        ensures told { OnOk result (Tells (IsPlanTold self.old.plans (body_of self.old.deck))
+            (IsTaken (body_of self.old.deck))
             (Demands (body_of self.old.deck)) (body_of self.old.deck) self.old.memory self.new.memory
             E.work engines.old engines.new text.old text.new 0) }
         ensures err { OnErr result (IsLost (IsTaken (body_of self.old.deck)) (Demands (body_of self.old.deck))
@@ -186,7 +187,8 @@ impl Session {
         requires most { length engines.old ≤ 64 }
         requires command { self.old.command ≡ commands.Plan }
         requires place { IsPlaced lines.Plan self.old }
-        ensures does { OnOk result (DoesLine lines.Plan self.old self.new E.work engines.old engines.new text.old text.new) }
+        ensures does { OnOk result (DoesLine lines.Plan self.old self.new E.work engines.old engines.new text.old
+            text.new) }
         ensures err_text { OnErr result (text.new.items ≡ text.old.items) }
         ensures err { OnErr result (IsWantingAt lines.Plan self.old self.new E.work engines.old engines.new) }
         ensures later { IsTrue self.old.refused → IsErr result }
@@ -279,7 +281,8 @@ impl Session {
         requires most { length engines.old ≤ 64 }
         requires command { self.old.command ≡ commands.Check }
         requires place { IsPlaced lines.EndCheck self.old }
-        ensures does { OnOk result (DoesLine lines.EndCheck self.old self.new E.work engines.old engines.new text.old text.new) }
+        ensures does { OnOk result (DoesLine lines.EndCheck self.old self.new E.work engines.old engines.new text.old
+            text.new) }
         ensures err_text { OnErr result (text.new.items ≡ text.old.items) }
         ensures err { OnErr result (IsWantingAt lines.EndCheck self.old self.new E.work engines.old engines.new) }
         ensures later { IsTrue self.old.refused → IsErr result }
@@ -328,9 +331,9 @@ impl Session {
         Ok(())
     }
 
-    /// Does what a line says: its text comes behind the others, and the state goes on. `Ended` comes exactly at END. The
-    /// engines simulate the keys that are new together, and the first details. After `OutOfMemory` the text is as before,
-    /// and the session answers `OutOfMemory` to every later call that can.
+    /// Does what a line says: its text comes behind the others, and the state goes on. `Ended` comes exactly at END.
+    /// The engines simulate the keys that are new together, and the first details. After `OutOfMemory` the text is as
+    /// before, and the session answers `OutOfMemory` to every later call that can.
     pub fn line<E: SimEngine, R: Threads + Sync>(
         &mut self,
         rt: &R,

@@ -49,7 +49,8 @@ pub(crate) fn table_of(
 /// The table of a case, and its solution.
 pub(crate) fn settle(alloc: Global, study: &Study, shelf: &Shelf) -> Result<CaseDone, OutOfMemory>
     requires on { IsOn shelf.now study.now }
-    ensures table { IfOk result (λ done. IsTableOf (body_of study.now.deck) study.now.case study.now.tunnels done.table) }
+    ensures table { IfOk result (λ done. IsTableOf (body_of study.now.deck) study.now.case study.now.tunnels
+        done.table) }
     ensures width { IfOk result (λ done. candidate_counts done.table.economy ≡ says.greatest (body_of study.now.deck)) }
     ensures solution { IfOk result (λ done. IsSolution done.table done.solved) }
 {

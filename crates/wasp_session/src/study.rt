@@ -38,8 +38,20 @@ impl<'a> Study<'a> {
         lists: &'a [Listed<Config>],
         ids: &'a [u64],
     ) -> Study<'a>
-        requires { IsStudy (record { deck = typed.now; case = case; tunnels = tunnels.now; lists = lists.now; ids = ids.now }) }
-        ensures { result ≡ record { deck = typed.now; case = case; tunnels = tunnels.now; lists = lists.now; ids = ids.now } }
+        requires { IsStudy (record {
+          deck = typed.now;
+          case = case;
+          tunnels = tunnels.now;
+          lists = lists.now;
+          ids = ids.now;
+        }) }
+        ensures { result ≡ record {
+          deck = typed.now;
+          case = case;
+          tunnels = tunnels.now;
+          lists = lists.now;
+          ids = ids.now;
+        } }
     {
         Study {
             typed,

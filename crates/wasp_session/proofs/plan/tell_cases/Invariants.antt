@@ -1,0 +1,14 @@
+use Rattle.std.proofs.Common.{[], ◌∷◌}
+use Rattle.deck_lines.specs.Deck.{body_of}
+use Rattle.wasp_session.specs.Inner.{GoesOn, HaveDetailed, TellsBy}
+use Rattle.wasp_session.specs.Said.{AreCasesTold}
+use Rattle.wasp_session.proofs.plan.tell_cases.Given as goal
+
+abbrev pub invariant-loop-c : goal.invariant-loop-c
+invariant-loop-c g l =
+    let e = g.E.SimEngine in
+    record {
+      told : TellsBy (AreCasesTold (body_of l.plan.deck) l.c) (e.work l.initial.engine) (e.work l.engine) l.initial.text l.text;
+      gone : HaveDetailed (e.work l.initial.engine ∷ []) (e.work l.engine ∷ []);
+      goes_on : GoesOn l.initial.text l.text;
+    }
