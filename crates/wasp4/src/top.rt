@@ -155,7 +155,7 @@ fn run_script<E: SimEngine, R: Threads + Sync, S: Source, K: Sink>(
 /// printed; counts rise run by run, and one that is at the last value of a `u64` stays there. After `ReadFault` the
 /// sink has gained the text of the lines taken whole, after `OutOfMemory` a front of what is told of the script's
 /// first lines or of the whole text, after `WriteFault` such a front with more to come, at `BadWords`, also where
-/// there is no engine, the usage line or a front of it. A sure source is never the cause of a `ReadFault`, and a sink
+/// there are too few engines, the usage line or a front of it. A sure source is never the cause of a `ReadFault`, and a sink
 /// whose sure room holds all that is to be written never that of a `WriteFault`.
 ///
 /// For hourly loads the words are `hours N`, with N from 2 to 64. No engine works, and none is asked for. The whole
