@@ -1,5 +1,5 @@
 -- What is said of the certificate of a CHECK, and what is learnt for it.
-use Rattle.std.proofs.Common.{◌≡◌, ◌∙◌, ap, sym, refl, subst, inl, inr, ℕ, ◌<◌, ◌≤◌, List, [], ◌∷◌, length, arith}
+use Rattle.std.proofs.Common.{◌≡◌, subst, inr, ℕ, ◌<◌, ◌≤◌, List, [], ◌∷◌, length, arith}
 use Rattle.cost_terms.specs.Table.{Table}
 use Rattle.deck_check.specs.DeckFault.{HasNoFault}
 use Rattle.deck_check.specs.Readings.{Says, cases, greatest, years}
@@ -10,17 +10,16 @@ use Rattle.plan_certificate.specs.declared.judging.Verdict.{Verdict}
 use Rattle.report_text.specs.declared.refusals.Refusal.{Refusal}
 use Rattle.report_text.specs.declared.refusals.Refusal.TheVariants.{Deck, Wide, Many}
 use Rattle.report_text.specs.declared.verdicts.Judged.TheVariants.{Form, Refused, Said}
-use Rattle.sim_engine.specs.Engine.{Run, Work}
+use Rattle.sim_engine.specs.Engine.{Work}
 use Rattle.tunnel_configs.specs.Listed.{ListingsAreOne}
-use Rattle.wasp_session.specs.Case.{IsTableOf}
 use Rattle.wasp_session.specs.Checks.{IsChecked, IsInForm, IsJudged, Open}
 use Rattle.wasp_session.specs.Inner.{HasTable, IsOfLists}
-use Rattle.wasp_session.specs.Keys.{DemandsChecked, DemandsUnder, IsCaseKey}
+use Rattle.wasp_session.specs.Keys.{DemandsChecked, DemandsUnder}
 use Rattle.wasp_session.specs.Listings.{AreWithin, IsOverIn, Tunnels, deck_tunnels}
 use Rattle.wasp_session.specs.State.{MemoryIs}
 use Rattle.wasp_session.specs.Steps.{IsLost, Learns}
 use Rattle.wasp_session.specs.Studies.{AreYearLists}
-use Rattle.wasp_session.proofs.LearnSteps.{learns_as, learns_none, lost_as, lost_of}
+use Rattle.wasp_session.proofs.LearnSteps.{learns_as, learns_none, lost_as}
 use Rattle.wasp_session.proofs.ListedKeys.{asks_case, case_asks, case_within}
 use Rattle.wasp_session.proofs.OverSteps.{over_not_case}
 use Rattle.wasp_session.proofs.TellBehind.{learns_by, lost_by}

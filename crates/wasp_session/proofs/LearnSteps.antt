@@ -1,14 +1,14 @@
 -- What a call learns or loses: by other words for what it demands and for whether anything is taken, and where it does
 -- nothing.
-use Rattle.std.proofs.Common.{ℕ, inl, inr, ⊎_elim, List, [], All, AllPairs, Contains, ◌≢◌, refl, sym, append-nil, arith, map}
+use Rattle.std.proofs.Common.{ℕ, inl, inr, ⊎_elim, List, [], refl, sym, append-nil, arith, map}
 use Rattle.std.proofs.lemmas.List.Elements.{All-nil}
 use Rattle.deck_check.specs.Readings.{Says}
 use Rattle.row_shelf.specs.Adds.{Adds}
-use Rattle.row_shelf.specs.Shelf.{Holds, ShelfIs}
+use Rattle.row_shelf.specs.Shelf.{ShelfIs}
 use Rattle.sim_engine.specs.Engine.{Run, Work}
 use Rattle.sim_sweep.proofs.TogetherSteps.{together_none}
 use Rattle.wasp_session.specs.State.{MemoryIs}
-use Rattle.wasp_session.specs.Steps.{HaveGone, IsLost, Learns, OnlyGains}
+use Rattle.wasp_session.specs.Steps.{IsLost, Learns, OnlyGains}
 use Rattle.wasp_session.specs.Studies.{IsSystemOf}
 
 -- ---- by other words

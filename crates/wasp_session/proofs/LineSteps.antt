@@ -1,7 +1,6 @@
 -- What lines do to a session: those that ask for no key, a PLAN, and an ENDCHECK.
-use Rattle.std.proofs.Common.{◌≡◌, ◌∙◌, ℕ, ◌+◌, List, [], ◌∷◌, ◌++◌, ◌⊎◌, inl, inr, length, Bool, true, false, Option, Some, None, map, ap, refl, subst, sym, arith, append-nil}
+use Rattle.std.proofs.Common.{◌≡◌, ◌∙◌, ℕ, ◌+◌, List, [], ◌++◌, ◌⊎◌, inl, inr, length, true, false, Option, Some, None, ap, refl, subst, sym, arith, append-nil}
 use Rattle.std.specs.Prelude.{Vec}
-use Rattle.deck_check.specs.Readings.{Says}
 use Rattle.deck_lines.specs.Deck.{body_of, put, without}
 use Rattle.deck_lines.specs.declared.head.Head.{Head}
 use Rattle.deck_lines.specs.declared.line.CertLine.{CertLine}
@@ -19,7 +18,6 @@ use Rattle.wasp_session.specs.Said.{IsCheckTold, IsPlanTold}
 use Rattle.wasp_session.specs.State.{MemoryIs, State, behind}
 use Rattle.wasp_session.specs.Steps.{Does, DoesLine, IsTakenAt, Learns, Tells, line_asks, line_told}
 use Rattle.wasp_session.specs.Told.{Told, nothing, plain}
-use Rattle.wasp_session.specs.declared.command.Command.{Command}
 use Rattle.wasp_session.proofs.LearnSteps.{learns_none}
 
 -- ---- states

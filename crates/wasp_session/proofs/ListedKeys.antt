@@ -1,9 +1,9 @@
 -- The keys of listed cases are those that the cases demand, and each year of a listed case is within the limits.
-use Rattle.std.proofs.Common.{◌≡◌, ◌∙◌, ap, sym, refl, subst, ℕ, zero, suc, ◌+◌, ◌-◌, ◌<◌, ◌≤◌, List, [], ◌∷◌, Contains, Some, length, slice_get, true≢false, is_some, arith}
+use Rattle.std.proofs.Common.{◌≡◌, ◌∙◌, ap, sym, refl, subst, ℕ, zero, suc, ◌+◌, ◌-◌, ◌≤◌, List, [], ◌∷◌, Contains, Some, slice_get, true≢false, is_some, arith}
 use Rattle.std.proofs.lemmas.Option.{same_Some, slice_get_within}
 use Rattle.checked_deck.specs.Systems.{system}
 use Rattle.deck_check.specs.DeckFault.{HasNoFault}
-use Rattle.deck_check.specs.Readings.{Says, cases, years}
+use Rattle.deck_check.specs.Readings.{Says, cases}
 use Rattle.row_shelf.proofs.EachSteps.{at_place}
 use Rattle.sim_engine.specs.Engine.{Run}
 use Rattle.wasp_session.specs.Inner.{IsOfLists}

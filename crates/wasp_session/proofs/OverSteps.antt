@@ -1,5 +1,5 @@
 -- A case and year over a limit, and why a deck is refused.
-use Rattle.std.proofs.Common.{ap, ℕ, List, length, arith}
+use Rattle.std.proofs.Common.{ap, ℕ, length, arith}
 use Rattle.checked_deck.specs.Systems.{system}
 use Rattle.checked_deck.specs.TypedDeck.{margin}
 use Rattle.deck_check.specs.DeckFault.{FaultsAreMet, HasNoFault, IsFaultOf}

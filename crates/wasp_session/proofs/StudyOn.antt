@@ -1,11 +1,10 @@
 -- The study of all cases, and that of one, on a shelf that has learnt the keys of their lists.
-use Rattle.std.proofs.Common.{◌≡◌, ap, sym, refl, subst, ℕ, ◌≤◌, List, [], ◌∷◌}
+use Rattle.std.proofs.Common.{◌≡◌, sym, subst, ℕ, List, [], ◌∷◌}
 use Rattle.deck_check.specs.DeckFault.{HasNoFault}
-use Rattle.deck_check.specs.Readings.{Says, cases}
 use Rattle.deck_lines.specs.Deck.{body_of}
 use Rattle.deck_lines.specs.declared.statement.Statement.{Statement}
 use Rattle.row_shelf.specs.Shelf.{ShelfIs}
-use Rattle.sim_engine.specs.Engine.{Run, Work}
+use Rattle.sim_engine.specs.Engine.{Work}
 use Rattle.wasp_session.specs.Inner.{DeckStudyIs, IsDeckOn, IsOfLists}
 use Rattle.wasp_session.specs.Listings.{Tunnels}
 use Rattle.wasp_session.specs.State.{MemoryIs}

@@ -1,8 +1,8 @@
 -- Telling behind learning: the first engine details years, and nothing else is done.
-use Rattle.std.proofs.Common.{◌≡◌, ℕ, ◌+◌, ◌⊎◌, inl, inr, ⊎_elim, List, [], ◌++◌, length, map, ap, subst, ◌∙◌, arith, append-nil}
+use Rattle.std.proofs.Common.{◌≡◌, ℕ, ◌+◌, inl, inr, ⊎_elim, List, [], map, subst, arith, append-nil}
 use Rattle.deck_check.specs.Readings.{Says}
 use Rattle.row_shelf.specs.Shelf.{Holds, ShelfIs}
-use Rattle.sim_engine.specs.Engine.{Run, Work, raised}
+use Rattle.sim_engine.specs.Engine.{Run, Work}
 use Rattle.sim_sweep.specs.Works.{HaveWorked}
 use Rattle.sim_sweep.proofs.TogetherSteps.{together_then}
 use Rattle.wasp_session.specs.Inner.{HaveDetailed}

@@ -15,7 +15,6 @@ use Rattle.wasp_session.specs.Keys.{IsKeyOf}
 use Rattle.wasp_session.specs.Studies.{AreCaseLists, HasYears}
 use Rattle.plan_program.specs.Plans.{entry_at}
 use Rattle.plant_data.specs.declared.row.Limit.{Limit}
-use Rattle.report_text.specs.declared.refusals.Refusal.{Refusal}
 use Rattle.row_shelf.specs.Asked.{EachAt}
 use Rattle.sim_engine.specs.Engine.{Run, Work}
 use Rattle.sim_sweep.specs.Works.{HaveWorked}

@@ -1,9 +1,7 @@
-use Rattle.std.proofs.Common.{ap, subst, sym, ◌<◌, Err, arith}
+use Rattle.std.proofs.Common.{ap, ◌<◌, Err, arith}
 use Rattle.deck_check.specs.Readings.{cases}
 use Rattle.deck_lines.specs.Deck.{body_of}
-use Rattle.report_text.specs.declared.refusals.Refusal.{Refusal}
-use Rattle.report_text.specs.declared.verdicts.Judged.TheVariants.{Refused}
-use Rattle.wasp_session.specs.Checks.{IsChecked, IsJudged}
+use Rattle.wasp_session.specs.Checks.{IsChecked}
 use Rattle.wasp_session.specs.Keys.{DemandsChecked}
 use Rattle.wasp_session.proofs.CheckSteps.{checked_learns, checked_lost, fault_is, fault_learns, in_form, over_judged, past_learns, said_is, verdict_judged}
 use Rattle.wasp_session.proofs.LearnSteps.{lost_none}

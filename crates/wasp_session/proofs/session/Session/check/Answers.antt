@@ -1,4 +1,4 @@
-use Rattle.std.proofs.Common.{◌≡◌, ◌∙◌, refl, sym, subst, false, IsTrue, None, Some}
+use Rattle.std.proofs.Common.{◌∙◌, refl, sym, subst, IsTrue}
 use Rattle.deck_lines.specs.Deck.{body_of}
 use Rattle.deck_lines.specs.declared.line.Line.TheVariants as lines
 use Rattle.wasp_session.specs.Checks.{IsChecked}
