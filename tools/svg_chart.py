@@ -113,7 +113,8 @@ class Chart:
             top = self.y(max(bottom, bottom + value))
             deep = self.y(min(bottom, bottom + value)) - top
             if deep > 0:
-                self.parts.append(f'<rect x="{tenths(self.x(at) - wide // 2)}" y="{tenths(top)}" width="{tenths(wide)}" '
+                left = self.x(at) - wide // 2
+                self.parts.append(f'<rect x="{tenths(left)}" y="{tenths(top)}" width="{tenths(wide)}" '
                                   f'height="{tenths(deep)}" fill="{fill.paint()}"/>')
         self.legend.append((name, fill))
 
@@ -148,7 +149,8 @@ class Chart:
             parts.append(f'<text x="{LEFT - 8}" y="{tenths(y + 40)}" text-anchor="end">'
                          f'{self.label(tick, self.step)}</text>')
         for at, year in enumerate(self.years):
-            parts.append(f'<text x="{tenths(self.x(at))}" y="{HEIGHT - BOTTOM + 18}" text-anchor="middle">{year}</text>')
+            parts.append(f'<text x="{tenths(self.x(at))}" y="{HEIGHT - BOTTOM + 18}" '
+                         f'text-anchor="middle">{year}</text>')
         middle = LEFT + (WIDTH - LEFT - RIGHT) // 2
         parts.append(f'<text x="{middle}" y="{HEIGHT - 14}" text-anchor="middle">year</text>')
         parts.append(f'<text x="{LEFT}" y="{TOP - 12}" text-anchor="start">{escaped(self.unit)}</text>')
