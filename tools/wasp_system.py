@@ -108,7 +108,7 @@ class Capacity:
         self.low, self.high = system.limits("MARGIN", case, year.number)
 
 
-def _fit_year(report, system, year):
+def _fit_year(report, system, case, year):
     def fault(what):
         raise Unreadable(report.path, year.line, f"year {year.number}: {what}, unlike the deck")
 
@@ -118,6 +118,9 @@ def _fit_year(report, system, year):
         fault(f"{len(year.short)} numbers of SHORT")
     if [line[:2] for line in year.generation] != system.generating(year.number, year.counts):
         fault("GEN lines of other plants")
+    Capacity(system, case.number, year)
+    system.limits("LOLP", case.number, year.number)
+    system.limits("TUNNEL", case.number, year.number, size=2 * len(year.counts))
 
 
 def _fit_case(report, system, case):
@@ -127,7 +130,7 @@ def _fit_case(report, system, case):
     if case.infeasible is not None and not 1 <= case.infeasible <= system.years:
         raise Unreadable(report.path, case.line + 1, "a year that the deck has not")
     for year in case.years:
-        _fit_year(report, system, year)
+        _fit_year(report, system, case, year)
     first = case.line + len(case.lines) - len(case.come)
     for line, (year, counts, _value) in enumerate(case.come, first):
         if len(counts) != width or not 1 <= year <= system.years:
