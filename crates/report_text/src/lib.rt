@@ -25,5 +25,7 @@ pub use case::write_case;
 pub use data::{CaseReport, Generation, Generations, PlanYear};
 pub use laws::reports_read_back;
 pub use refusals::{Refusal, write_refusal};
-pub use script::{write_heading, write_keys, write_malformed};
+pub use script::{
+    write_best_heading, write_heading, write_keys, write_malformed, write_search_heading,
+};
 pub use verdicts::{Judged, write_verdict};

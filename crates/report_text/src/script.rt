@@ -1,7 +1,9 @@
 //! The lines of a script around its reports.
 ghost use Rattle.std.specs.Prelude.{◌≡◌, ◌++◌, OnOk, OnErr};
 ghost use Rattle.report_text.specs.Lines.{heading, keys_line};
+ghost use Rattle.report_text.specs.Ranking.{best_heading};
 ghost use Rattle.report_text.specs.Refusals.{kind_word, malformed_line};
+ghost use Rattle.report_text.specs.Rounds.{search_heading};
 
 use deck_lines::{LineFault, LineKind};
 use wasp_fixed::OutOfMemory;
@@ -13,6 +15,28 @@ pub fn write_heading(number: u64, text: &mut Vec<u8>) -> Result<(), OutOfMemory>
     ensures kept { OnErr result (text.new.items ≡ text.old.items) }
 {
     let line = format!(in *text.allocator(); "PLAN {number}\n")?;
+    text.extend_from_slice(line.as_bytes())?;
+    Ok(())
+}
+
+/// Appends the line `SEARCH number`, which begins what a search says of the script's PLAN line of that number, from 1.
+/// After `OutOfMemory` the text is as before.
+pub fn write_search_heading(number: u64, text: &mut Vec<u8>) -> Result<(), OutOfMemory>
+    ensures appended { OnOk result (text.new.items ≡ text.old.items ++ search_heading number) }
+    ensures kept { OnErr result (text.new.items ≡ text.old.items) }
+{
+    let line = format!(in *text.allocator(); "SEARCH {number}\n")?;
+    text.extend_from_slice(line.as_bytes())?;
+    Ok(())
+}
+
+/// Appends the line `BEST number`, which begins the best plans of the script's PLAN line of that number, from 1. After
+/// `OutOfMemory` the text is as before.
+pub fn write_best_heading(number: u64, text: &mut Vec<u8>) -> Result<(), OutOfMemory>
+    ensures appended { OnOk result (text.new.items ≡ text.old.items ++ best_heading number) }
+    ensures kept { OnErr result (text.new.items ≡ text.old.items) }
+{
+    let line = format!(in *text.allocator(); "BEST {number}\n")?;
     text.extend_from_slice(line.as_bytes())?;
     Ok(())
 }

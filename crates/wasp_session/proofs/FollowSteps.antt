@@ -54,6 +54,8 @@ none_held = record {
 of_command : (command : Command) → command ≡ (task_of command).command
 of_command commands.Plan = refl
 of_command commands.Check = refl
+of_command commands.Search = refl
+of_command (commands.Best k) = refl
 
 pub follows_none : (command : Command) → Follows (task_of command) [] [] (begun command [])
 follows_none command = record {
@@ -130,20 +132,18 @@ open_more ls line = ap (λ (z : List Line). looking_back z []) (reverse-append l
 
 -- ---- what a line demands and what is told of it, by the state and by the lines
 
-no_plan_mode : (o : Option Open) → check_mode o ≡ modes.Plan → ⊥
-no_plan_mode None e = cc
-no_plan_mode (Some o) e = cc
+-- its command is that of the task
+same_command : (command : Command) (ls : List Line) (keys : List Run) (s : State) → Follows (task_of command) ls keys s → s.command ≡ command
+same_command command ls keys s f = f.command ∙ sym (of_command command)
 
--- there is no PLAN line in the mode of a check
-no_plan : (s : State) → s.command ≡ commands.Check → mode_of s.command s.opened ≡ modes.Plan → ⊥
-no_plan s e mode = no_plan_mode s.opened (subst (λ (c : Command). mode_of c s.opened ≡ modes.Plan) e mode)
-
-plan_asks : (command : Command) (ls : List Line) (keys : List Run) (s : State) (key : Run) → mode_of s.command s.opened ≡ modes.Plan → Follows (task_of command) ls keys s
-    → (Demands (body_of s.deck) key → (task_of command).asks (deck_at ls) key) × ((task_of command).asks (deck_at ls) key → Demands (body_of s.deck) key)
-plan_asks commands.Plan ls keys s key mode f =
+plan_asks : (command : Command) (ls : List Line) (keys : List Run) (s : State) (key : Run) → Follows (task_of command) ls keys s
+    → ((task_of s.command).asks (body_of s.deck) key → (task_of command).asks (deck_at ls) key) × ((task_of command).asks (deck_at ls) key → (task_of s.command).asks (body_of s.deck) key)
+plan_asks command ls keys s key f =
     let same = deck_same ls s.deck f.deck in
-    (subst (λ (d : Says). Demands d key) same, subst (λ (d : Says). Demands d key) (sym same))
-plan_asks commands.Check ls keys s key mode f = absurd (no_plan s f.command mode)
+    let as_said = same_command command ls keys s f in (
+      λ is. subst (λ (c : Command). (task_of c).asks (deck_at ls) key) as_said (subst (λ (d : Says). (task_of s.command).asks d key) same is),
+      λ is. subst (λ (d : Says). (task_of s.command).asks d key) (sym same) (subst (λ (c : Command). (task_of c).asks (deck_at ls) key) (sym as_said) is),
+    )
 
 end_asks : (ls : List Line) (s : State) (key : Run) → body_of s.deck ≡ deck_at ls → s.opened ≡ open_at ls
     → (DemandsAtEnd (body_of s.deck) s.opened key → DemandsAtEnd (deck_at ls) (open_at ls) key)
@@ -156,7 +156,7 @@ end_asks ls s key same at = (
 asks_same : (command : Command) (ls : List Line) (line : Line) (keys : List Run) (s : State) (key : Run)
     → IsOfMode (mode_of s.command s.opened) line → Follows (task_of command) ls keys s
     → (line_asks s line key → AsksBehind (task_of command) ls line key) × (AsksBehind (task_of command) ls line key → line_asks s line key)
-asks_same command ls lines.Plan keys s key mode f = plan_asks command ls keys s key mode f
+asks_same command ls lines.Plan keys s key mode f = plan_asks command ls keys s key f
 asks_same command ls lines.EndCheck keys s key mode f = end_asks ls s key (deck_same ls s.deck f.deck) f.opened
 asks_same command ls lines.Blank keys s key mode f = (λ none. none, λ none. none)
 asks_same command ls (lines.Set x) keys s key mode f = (λ none. none, λ none. none)
@@ -166,15 +166,16 @@ asks_same command ls (lines.Cert l) keys s key mode f = (λ none. none, λ none.
 asks_same command ls lines.Skip keys s key mode f = (λ none. none, λ none. none)
 asks_same command ls lines.End keys s key mode f = (λ none. none, λ none. none)
 
-plan_told : (command : Command) (ls : List Line) (keys : List Run) (s : State) (told : Told) → mode_of s.command s.opened ≡ modes.Plan → Follows (task_of command) ls keys s
-    → IsPlanTold (s.plans + 1) (body_of s.deck) told → (task_of command).tells (plan_count ls + 1) (deck_at ls) told
-plan_told commands.Plan ls keys s told mode f is =
-    subst (λ (n : ℕ). IsPlanTold (n + 1) (deck_at ls) told) f.plans (subst (λ (d : Says). IsPlanTold (s.plans + 1) d told) (deck_same ls s.deck f.deck) is)
-plan_told commands.Check ls keys s told mode f is = absurd (no_plan s f.command mode)
+plan_told : (command : Command) (ls : List Line) (keys : List Run) (s : State) (told : Told) → Follows (task_of command) ls keys s
+    → (task_of s.command).tells (s.plans + 1) (body_of s.deck) told → (task_of command).tells (plan_count ls + 1) (deck_at ls) told
+plan_told command ls keys s told f is =
+    subst (λ (n : ℕ). (task_of command).tells (n + 1) (deck_at ls) told) f.plans
+    (subst (λ (d : Says). (task_of command).tells (s.plans + 1) d told) (deck_same ls s.deck f.deck)
+    (subst (λ (c : Command). (task_of c).tells (s.plans + 1) (body_of s.deck) told) (same_command command ls keys s f) is))
 
 told_same : (command : Command) (ls : List Line) (line : Line) (keys : List Run) (s : State) (told : Told)
     → IsOfMode (mode_of s.command s.opened) line → Follows (task_of command) ls keys s → line_told s line told → IsLineTold (task_of command) ls line told
-told_same command ls lines.Plan keys s told mode f is = plan_told command ls keys s told mode f is
+told_same command ls lines.Plan keys s told mode f is = plan_told command ls keys s told f is
 told_same command ls lines.EndCheck keys s told mode f is =
     subst (λ (o : Option Open). IsCheckTold (deck_at ls) (check_count ls) o told) f.opened
     (subst (λ (n : ℕ). IsCheckTold (deck_at ls) n s.opened told) f.checks
@@ -265,9 +266,7 @@ pub record GoesThrough {X Z : Type 0} (command : Command) (ls : List Line) (line
   pub nos : t.nos ≡ s.nos + told.nos
   pub worked : HaveWorked new told.details (map work es) (map work fs)
   pub tally : t.memory.tally ≡ raised (length new) s.memory.tally
-  pub few : length new ≤ 120000
   pub many : length t.memory.shelf.kept ≡ length s.memory.shelf.kept + length new
-  pub few_systems : length t.memory.shelf.book ≤ length s.memory.shelf.book + 30
   pub quiet : (line ≡ lines.Plan → ⊥) → (line ≡ lines.EndCheck → ⊥) → t.memory.shelf ≡ s.memory.shelf
 
 pub follows_line : {X Z : Type 0} (command : Command) (ls : List Line) (line : Line) (keys : List Run) (s t : State) (work : X → Work) (es fs : List X) (said said_now : Vec ℕ Z)
@@ -300,8 +299,6 @@ follows_line command ls line keys s t work es fs said said_now mode f does =
       nos = nos ∙ ap (λ (n : ℕ). s.nos + n) (sym tells.nos);
       worked = learns.worked;
       tally = learns.tally;
-      few = learns.few;
       many = adds.many;
-      few_systems = learns.few_systems;
       quiet = λ plan check. learns.gains.still (none_taken s line plan check);
     }

@@ -44,8 +44,6 @@ learns_as Taken A B d before now work es fs n taken to back learns = record {
   adds = adds_as A B before.shelf now.shelf learns.new to back learns.adds;
   worked = learns.worked;
   tally = learns.tally;
-  few = learns.few;
-  few_systems = learns.few_systems;
 }
 
 pub lost_as : {X : Type 0} (Taken : Type 0) (A B : Run → Type 0) (d : Says) (before now : MemoryIs) (work : X → Work) (es fs : List X)
@@ -91,8 +89,6 @@ learns_none Taken A d m work es untaken none = record {
   adds = adds_none A m.shelf none;
   worked = together_none (map work es);
   tally = refl;
-  few = omega arith;
-  few_systems = omega arith;
 }
 
 pub lost_none : {X : Type 0} (Taken : Type 0) (A : Run → Type 0) (d : Says) (m : MemoryIs) (work : X → Work) (es : List X) → IsLost Taken A d m m work es es

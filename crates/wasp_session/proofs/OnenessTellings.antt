@@ -16,7 +16,9 @@ use Rattle.tunnel_configs.specs.Listed.{ListingsAreOne}
 use Rattle.wasp_session.proofs.OnenessChecks.{one_judgement}
 use Rattle.wasp_session.proofs.OnenessKeys.{one_key_list}
 use Rattle.wasp_session.proofs.OnenessReports.{one_refusal, one_report}
-use Rattle.wasp_session.proofs.TellSteps.{joined_assoc, nothing_joined, same_told}
+use Rattle.wasp_session.proofs.OnenessRanks.{best_one}
+use Rattle.wasp_session.proofs.OnenessRounds.{search_one}
+use Rattle.wasp_session.proofs.TellSteps.{both_are, joined_assoc, joined_one, nothing_joined, same_told}
 use Rattle.wasp_session.specs.Checks.{Open, check_count, nos_of, open_at}
 use Rattle.wasp_session.specs.Listings.{deck_tunnels}
 use Rattle.wasp_session.specs.Oneness.{TellingOfAFront, TellingsAreOne}
@@ -25,17 +27,6 @@ use Rattle.wasp_session.specs.Tasks.{AreToldAfter, IsEndTold, IsLineTold, Task, 
 use Rattle.wasp_session.specs.Told.{AreJoined, Told, joined, nothing, plain}
 use Rattle.wasp_session.specs.declared.command.Command.{Command}
 use Rattle.wasp_session.specs.declared.command.Command.TheVariants as commands
-
--- two tellings that are each one are one together
-joined_one : (One Other : Told → Type 0) (a b : Told) → ((x y : Told) → One x → One y → x ≡ y) → ((x y : Told) → Other x → Other y → x ≡ y) → AreJoined One Other a → AreJoined One Other b → a ≡ b
-joined_one One Other a b first second x y =
-    let p : x.one ≡ y.one = first x.one y.one x.is_one y.is_one in
-    let q : x.other ≡ y.other = second x.other y.other x.is_other y.is_other in
-    let both : joined x.one x.other ≡ joined y.one y.other = λ i. joined (p i) (q i) in
-    x.is ∙ (both ∙ sym y.is)
-
-both_are : (told a b : Told) → a ≡ told → b ≡ told → a ≡ b
-both_are told a b x y = x ∙ sym y
 
 -- ---- a PLAN
 
@@ -60,6 +51,8 @@ deck_one one d a b (inr x) (inr y) = cases_one one d (cases d) a b x.cases y.cas
 plan_one : ListingsAreOne → (command : Command) (n : ℕ) (d : Says) (a b : Told) → (task_of command).tells n d a → (task_of command).tells n d b → a ≡ b
 plan_one one commands.Plan n d a b x y = joined_one (λ head. head ≡ plain (heading n)) (IsDeckTold d) a b (both_are (plain (heading n))) (deck_one one d) x y
 plan_one one commands.Check n d a b x y = x ∙ sym y
+plan_one one commands.Search n d a b x y = search_one one n d a b x y
+plan_one one (commands.Best k) n d a b x y = best_one one k n d a b x y
 
 -- ---- a CHECK, and the end
 

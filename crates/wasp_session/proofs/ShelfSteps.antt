@@ -22,7 +22,7 @@ use Rattle.wasp_session.proofs.ApartSteps.{apart_behind, no_longer}
 use Rattle.wasp_session.proofs.ListSteps.{its_place}
 use Rattle.wasp_session.specs.Inner.{FitYears, IsOfLists}
 use Rattle.wasp_session.specs.State.{MemoryIs}
-use Rattle.wasp_session.specs.Steps.{IsLost, Learns}
+use Rattle.wasp_session.specs.Steps.{GainsFew, IsLost, Learns}
 use Rattle.wasp_session.specs.Studies.{AreSystems, HasYears, IsSystemOf}
 use Rattle.year_system.proofs.CodeParts.{one_key, same_system}
 use Rattle.year_system.specs.Code.{IsCode, code_of}
@@ -133,15 +133,14 @@ total_most f most (x ∷ xs) all =
     let more : most * suc (length xs) ≡ most + most * length xs = omega arith in
     omega (arith, one, rest, more)
 
-pub few_asked : (d : Says) (cases : List (List (List (List ℕ)))) → years d ≤ 30 → length cases ≤ 8 → All (FitYears d) cases → asked_count cases ≤ 120000
-few_asked d cases few_years few_cases fit =
+pub few_asked : (d : Says) (cases : List (List (List (List ℕ)))) → years d ≤ 30 → All (FitYears d) cases → asked_count cases ≤ 15000 * length cases
+few_asked d cases few_years fit =
     let each = All-weaker (FitYears d) (λ lists. total (λ (configs : List (List ℕ)). length configs) lists ≤ 15000)
     (λ lists one.
     let few = total_most (λ (configs : List (List ℕ)). length configs) 500 lists one.few in
     let many = one.many in
     omega (arith, few, many, few_years)) cases fit in
-    let all = total_most (λ (lists : List (List (List ℕ))). total (λ (configs : List (List ℕ)). length configs) lists) 15000 cases each in
-    omega (arith, all, few_cases)
+    total_most (λ (lists : List (List (List ℕ))). total (λ (configs : List (List ℕ)). length configs) lists) 15000 cases each
 
 -- ---- both together
 
@@ -162,22 +161,17 @@ adds_back A B before mid now more new was is grown rows to back adds =
     }
 
 pub learnt : {X : Type 0} (d : Says) (systems : List System) (ids : List ℕ) (cases : List (List (List (List ℕ)))) (before : MemoryIs) (mid now : ShelfIs) (tally : ℕ) (work : X → Work) (es fs : List X)
-    → years d ≤ 30 → length cases ≤ 8 → All (FitYears d) cases → AreSystems d systems → IsShelf before.shelf → IsShelf mid
+    → All (FitYears d) cases → AreSystems d systems → IsShelf before.shelf → IsShelf mid
     → AreNumbers mid.book systems ids → Grows (Contains systems) before.shelf.book mid.book → mid.kept ≡ before.shelf.kept
     → now.book ≡ mid.book → FillsCases ids cases mid now work es fs
     → ((new : ℕ) → length now.kept ≡ length mid.kept + new → tally ≡ raised new before.tally)
-    → length now.kept ≤ length mid.kept + asked_count cases
     → Learns (Unit {0}) (IsOfLists d cases) d before (record { shelf = now; tally = tally }) work es fs 0
-learnt d systems ids cases before mid now tally work es fs few_years few_cases fit are was is found grown rows same fills rose few =
+learnt d systems ids cases before mid now tally work es fs fit are was is found grown rows same fills rose =
     let numbers = has_years d mid.book systems ids are found in
     let adds = adds_back (IsAsked mid.book ids cases) (IsOfLists d cases) before.shelf mid now grown.more fills.new was is grown.is rows
     (λ key asked. to_lists d mid.book ids cases key numbers asked) (λ key asked. from_lists d mid.book ids cases key numbers fit asked) fills.adds in
     let gone = grows_by d systems before.shelf.book mid.book are grown in
     let many = fills.adds.many in
-    let asked = few_asked d cases few_years few_cases fit in
-    let taken = few_systems systems before.shelf.book mid is grown in
-    let long = ap length same in
-    let of_years = are.many in
     record {
       gains = record {
         grown = record { more = gone.more; is = same ∙ gone.is; each = gone.each };
@@ -189,8 +183,22 @@ learnt d systems ids cases before mid now tally work es fs few_years few_cases f
       adds = adds;
       worked = fills.worked;
       tally = rose (length fills.new) many;
-      few = omega (arith, many, few, asked);
-      few_systems = omega (arith, taken, long, of_years, few_years);
+    }
+
+-- and the shelf has few more
+pub gained : (d : Says) (systems : List System) (cases : List (List (List (List ℕ)))) (before now : MemoryIs) (mid : ShelfIs)
+    → years d ≤ 30 → All (FitYears d) cases → AreSystems d systems → IsShelf mid
+    → Grows (Contains systems) before.shelf.book mid.book → mid.kept ≡ before.shelf.kept
+    → now.shelf.book ≡ mid.book → length now.shelf.kept ≤ length mid.kept + asked_count cases → GainsFew (15000 * length cases) before now
+gained d systems cases before now mid few_years fit are is grown rows same few =
+    let asked = few_asked d cases few_years fit in
+    let taken = few_systems systems before.shelf.book mid is grown in
+    let long = ap length same in
+    let as_old = ap length rows in
+    let of_years = are.many in
+    record {
+      systems = omega (arith, taken, long, of_years, few_years);
+      rows = omega (arith, few, asked, as_old);
     }
 
 -- where memory was wanting, no rows came

@@ -30,8 +30,6 @@ learns_then Taken A d before now work es fs gs k l told =
       adds = l.adds;
       worked = subst (λ (n : ℕ). HaveWorked l.new n (map work es) (map work gs)) e (detailed_behind l.new 0 k (map work es) (map work fs) (map work gs) l.worked told);
       tally = l.tally;
-      few = l.few;
-      few_systems = l.few_systems;
     }
 
 pub lost_then : {X : Type 0} (Taken : Type 0) (A : Run → Type 0) (d : Says) (before now : MemoryIs) (work : X → Work) (es fs gs : List X)
@@ -69,8 +67,6 @@ learns_by T U A B d before now work es fs n taken to from l = record {
   };
   worked = l.worked;
   tally = l.tally;
-  few = l.few;
-  few_systems = l.few_systems;
 }
 
 pub lost_by : {X : Type 0} (T U : Type 0) (A B : Run → Type 0) (d : Says) (before now : MemoryIs) (work : X → Work) (es fs : List X)

@@ -20,7 +20,11 @@ use Rattle.sim_engine.specs.Engine.{Run, Work}
 use Rattle.sim_sweep.specs.Works.{HaveWorked}
 use Rattle.wasp_session.specs.Case.{IsTableOf}
 use Rattle.wasp_session.specs.Listings.{AreWithin, IsOverIn, Tunnels}
+use Rattle.wasp_session.specs.State.{MemoryIs}
+use Rattle.wasp_session.specs.Steps.{IsLost, Tells}
+use Rattle.wasp_session.specs.Tasks.{deck_told, task_of}
 use Rattle.wasp_session.specs.Told.{Told}
+use Rattle.wasp_session.specs.declared.command.Command.{Command}
 use Rattle.wasp_session.specs.declared.answer.CaseAnswer.{CaseAnswer}
 use Rattle.wasp_session.specs.declared.answer.CaseAnswer.TheVariants as answers
 use Rattle.year_system.specs.System.{Fits}
@@ -94,6 +98,24 @@ pub record TellsByFirst {X Z : Type 0} (Is : Told → Type 0) (work : X → Work
 pub record HaveDetailed (before now : List Work) : Type 0 where
   pub years : ℕ
   pub worked : HaveWorked [] years before now
+
+-- ---- what a PLAN line does by its command
+
+-- what is told of a deck, and of the n-th PLAN line on it
+abbrev pub TellsDeck : {X Z : Type 0} → Command → List Statement → MemoryIs → MemoryIs → (X → Work) → List X → List X → Vec ℕ Z → Vec ℕ Z → Type 0
+TellsDeck command deck m n work es fs said said_now =
+    Tells (deck_told command (body_of deck)) ((task_of command).takes (body_of deck))
+    ((task_of command).asks (body_of deck)) (body_of deck) m n work es fs said said_now 0
+
+abbrev pub TellsPlan : {X Z : Type 0} → Command → ℕ → List Statement → MemoryIs → MemoryIs → (X → Work) → List X → List X → Vec ℕ Z → Vec ℕ Z → Type 0
+TellsPlan command number deck m n work es fs said said_now =
+    Tells ((task_of command).tells number (body_of deck)) ((task_of command).takes (body_of deck))
+    ((task_of command).asks (body_of deck)) (body_of deck) m n work es fs said said_now 0
+
+-- what stands where memory was wanting
+abbrev pub IsLostOn : {X : Type 0} → Command → List Statement → MemoryIs → MemoryIs → (X → Work) → List X → List X → Type 0
+IsLostOn command deck m n work es fs =
+    IsLost ((task_of command).takes (body_of deck)) ((task_of command).asks (body_of deck)) (body_of deck) m n work es fs
 
 -- ---- what is answered of a case under tunnels
 

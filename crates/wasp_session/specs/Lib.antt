@@ -7,6 +7,8 @@ pub mod Keys
 pub mod Listings
 pub mod Modes
 pub mod Oneness
+pub mod Ranks
+pub mod Rounds
 pub mod Said
 pub mod State
 pub mod Steps

@@ -5,6 +5,7 @@ use Rattle.deck_lines.specs.declared.line.Line.{Line}
 use Rattle.deck_lines.specs.declared.statement.Statement.{Statement}
 use Rattle.row_shelf.specs.Shelf.{IsShelf, ShelfIs, no_rows}
 use Rattle.wasp_session.specs.Checks.{Open, check_count, open_behind}
+use Rattle.wasp_session.specs.Modes.{HasPlans, IsCommand}
 use Rattle.wasp_session.specs.Tasks.{plan_count}
 use Rattle.wasp_session.specs.declared.command.Command.{Command}
 use Rattle.wasp_session.specs.declared.command.Command.TheVariants as commands
@@ -50,7 +51,8 @@ open_count (Some o) = 1
 -- what is true of every session
 pub record IsState (s : State) : Type 0 where
   pub shelf : IsShelf s.memory.shelf
-  pub plan : s.command ≡ commands.Plan → (s.checks ≡ 0) × (s.opened ≡ None)
+  pub command : IsCommand s.command
+  pub plan : HasPlans s.command → (s.checks ≡ 0) × (s.opened ≡ None)
   pub check : s.command ≡ commands.Check → s.plans ≡ 0
   pub nos : s.nos + open_count s.opened ≤ s.checks
   pub few : s.plans ≤ 64

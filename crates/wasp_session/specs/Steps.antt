@@ -11,11 +11,11 @@ use Rattle.row_shelf.specs.Adds.{Adds}
 use Rattle.row_shelf.specs.Shelf.{Grows, Holds, ShelfIs}
 use Rattle.sim_engine.specs.Engine.{Run, Work, raised}
 use Rattle.sim_sweep.specs.Works.{HaveWorked}
-use Rattle.wasp_session.specs.Keys.{Demands, DemandsAtEnd, IsCheckedAtEnd}
-use Rattle.wasp_session.specs.Listings.{IsTaken}
-use Rattle.wasp_session.specs.Said.{IsCheckTold, IsPlanTold}
+use Rattle.wasp_session.specs.Keys.{DemandsAtEnd, IsCheckedAtEnd}
+use Rattle.wasp_session.specs.Said.{IsCheckTold}
 use Rattle.wasp_session.specs.State.{MemoryIs, State, behind}
 use Rattle.wasp_session.specs.Studies.{IsSystemOf}
+use Rattle.wasp_session.specs.Tasks.{most_keys, most_plans, task_of}
 use Rattle.wasp_session.specs.Told.{Told, nothing, plain}
 
 -- ---- what a call does to the memory, by what is demanded of a deck, and whether anything is taken from it at all
@@ -35,8 +35,11 @@ pub record Learns {X : Type 0} (Taken : Type 0) (Asks : Run → Type 0) (d : Say
   pub adds : Adds Asks before.shelf now.shelf new
   pub worked : HaveWorked new years (map work es) (map work fs)
   pub tally : now.tally ≡ raised (length new) before.tally
-  pub few : length new ≤ 120000
-  pub few_systems : length now.shelf.book ≤ length before.shelf.book + 30
+
+-- the systems of a deck's years came to it at most, and so many rows
+pub record GainsFew (keys : ℕ) (before now : MemoryIs) : Type 0 where
+  pub systems : length now.shelf.book ≤ length before.shelf.book + 30
+  pub rows : length now.shelf.kept ≤ length before.shelf.kept + keys
 
 -- some engines simulated some keys, each once, the first detailed some years, and a tally rose by the keys
 pub record HaveGone (tally tally_now : ℕ) (before now : List Work) : Type 0 where
@@ -77,20 +80,20 @@ pub record IsWanting {X : Type 0} (Taken : Type 0) (Asks : Run → Type 0) (s t 
 
 -- what is told of a line, by the state before it
 abbrev pub line_told : State → Line → Told → Type 0
-line_told s lines.Plan told = IsPlanTold (s.plans + 1) (body_of s.deck) told
+line_told s lines.Plan told = (task_of s.command).tells (s.plans + 1) (body_of s.deck) told
 line_told s lines.EndCheck told = IsCheckTold (body_of s.deck) s.checks s.opened told
 line_told s lines.End told = told ≡ plain (keys_line (length s.memory.shelf.kept))
 line_told s _ told = told ≡ nothing
 
--- it is a PLAN that is not refused, or the ENDCHECK of a CHECK that is neither refused nor failed in its form
+-- it is a PLAN from which something is taken, or the ENDCHECK of a CHECK that is neither refused nor failed in its form
 abbrev pub IsTakenAt : State → Line → Type 0
-IsTakenAt s lines.Plan = IsTaken (body_of s.deck)
+IsTakenAt s lines.Plan = (task_of s.command).takes (body_of s.deck)
 IsTakenAt s lines.EndCheck = IsCheckedAtEnd (body_of s.deck) s.opened
 IsTakenAt s _ = ⊥
 
 -- the keys that it demands
 abbrev pub line_asks : State → Line → Run → Type 0
-line_asks s lines.Plan key = Demands (body_of s.deck) key
+line_asks s lines.Plan key = (task_of s.command).asks (body_of s.deck) key
 line_asks s lines.EndCheck key = DemandsAtEnd (body_of s.deck) s.opened key
 line_asks s _ key = ⊥
 
@@ -110,7 +113,7 @@ pub record HasPlaceFor (keys : ℕ) (m : MemoryIs) : Type 0 where
 
 -- a line's keys have places, and it is not the 65th of its kind
 abbrev pub IsPlaced : Line → State → Type 0
-IsPlaced lines.Plan s = (s.plans < 64) × HasPlaceFor 120000 s.memory
+IsPlaced lines.Plan s = (s.plans < most_plans s.command) × HasPlaceFor (most_keys s.command) s.memory
 IsPlaced (lines.Check c) s = s.checks < 64
 IsPlaced lines.EndCheck s = HasPlaceFor 120000 s.memory
 IsPlaced _ s = Unit {0}

@@ -1,72 +1,23 @@
 //! What an ENDCHECK line does.
 ghost use Rattle.std.specs.Prelude.{◌≡◌, ◌≤◌, IfOk, OnErr, OnOk, length};
-ghost use Rattle.deck_check.specs.Readings as says;
 ghost use Rattle.deck_lines.specs.Deck.{body_of};
 ghost use Rattle.wasp_session.specs.Checks.{IsChecked, IsJudged};
-ghost use Rattle.wasp_session.specs.Inner.{IsAnswerUnder};
-ghost use Rattle.wasp_session.specs.Keys.{DemandsChecked, DemandsUnder};
-ghost use Rattle.wasp_session.specs.Listings.{AreWithin, deck_tunnels};
-ghost use Rattle.wasp_session.specs.Steps.{HasPlaceFor, IsLost, Learns};
+ghost use Rattle.wasp_session.specs.Keys.{DemandsChecked};
+ghost use Rattle.wasp_session.specs.Steps.{GainsFew, HasPlaceFor, IsLost, Learns};
 
-use crate::answer::CaseAnswer;
-use crate::listing::{ListError, list_case, own_tunnels, systems_of};
+use crate::answer::{CaseAnswer, answer_case};
 use crate::memory::Memory;
 use crate::opened::OpenCheck;
-use crate::settling::table_of;
-use crate::study::Study;
 use checked_deck::{CheckError, TypedDeck, check};
 use deck_check::faults_are_met;
 use deck_lines::Deck;
 use plan_certificate::{CertError, judge, read_certificate, readings_are_one};
-use plant_data::Listed;
 use report_text::{Judged, Refusal};
-use row_shelf::CaseLists;
 use sim_engine::SimEngine;
 use std::alloc::Global;
 use std::thread::Threads;
 use tunnel_configs::listings_are_one;
 use wasp_fixed::OutOfMemory;
-
-/// The table of a case under the deck's own tunnels, or its first year over a limit. The rows of its keys are then
-/// kept; those that are new are simulated, each once. Nothing is planned.
-fn answer_case<E: SimEngine, R: Threads + Sync>(
-    alloc: Global,
-    rt: &R,
-    typed: &TypedDeck,
-    case: u64,
-    memory: &mut Memory,
-    engines: &mut [E],
-) -> Result<CaseAnswer, OutOfMemory>
-    requires some { 1 ≤ length engines.old }
-    requires most { length engines.old ≤ 64 }
-    requires low { 1 ≤ case }
-    requires high { case ≤ says.cases (body_of typed.now) }
-    requires place { HasPlaceFor 120000 memory.old }
-    ensures answer { IfOk result (λ answer. IsAnswerUnder (body_of typed.now) case
-        (deck_tunnels (body_of typed.now) case) answer) }
-    ensures learns { OnOk result (Learns (AreWithin (body_of typed.now) case (deck_tunnels (body_of typed.now) case))
-        (DemandsUnder (body_of typed.now) case (deck_tunnels (body_of typed.now) case)) (body_of typed.now)
-        memory.old memory.new E.work engines.old engines.new 0) }
-    ensures err { OnErr result (IsLost (AreWithin (body_of typed.now) case (deck_tunnels (body_of typed.now) case))
-        (DemandsUnder (body_of typed.now) case (deck_tunnels (body_of typed.now) case)) (body_of typed.now)
-        memory.old memory.new E.work engines.old engines.new) }
-{
-    // Its reading tells the proof that the deck meets no row of the fault table.
-    let _years = typed.years();
-    listings_are_one();
-    let systems = systems_of(alloc, typed)?;
-    let tunnels = own_tunnels(alloc, typed, case)?;
-    match list_case(alloc, typed, &systems, case, &tunnels) {
-        Ok(lists) => {
-            let cases = [lists];
-            let ids = memory.learn(rt, typed, systems, &cases, engines)?;
-            let study = Study::new(typed, case, &tunnels, cases[0].as_slice(), &ids);
-            Ok(CaseAnswer::Table(table_of(alloc, &study, memory.shelf())?))
-        }
-        Err(ListError::OutOfMemory) => Err(OutOfMemory),
-        Err(ListError::Over(refusal)) => Ok(CaseAnswer::Over(refusal)),
-    }
-}
 
 /// Judges a certificate on a deck without a fault, or says where its form has one.
 fn judge_typed<E: SimEngine, R: Threads + Sync>(
@@ -84,6 +35,7 @@ fn judge_typed<E: SimEngine, R: Threads + Sync>(
     ensures learns { OnOk result (Learns (IsChecked (body_of typed.now) opened.now)
         (DemandsChecked (body_of typed.now) opened.now)
         (body_of typed.now) memory.old memory.new E.work engines.old engines.new 0) }
+    ensures few { OnOk result (GainsFew 120000 memory.old memory.new) }
     ensures err { OnErr result (IsLost (IsChecked (body_of typed.now) opened.now)
         (DemandsChecked (body_of typed.now) opened.now)
         (body_of typed.now) memory.old memory.new E.work engines.old engines.new) }
@@ -123,6 +75,7 @@ pub(crate) fn judge_deck<E: SimEngine, R: Threads + Sync>(
     ensures learns { OnOk result (Learns (IsChecked (body_of deck.now) opened.now)
         (DemandsChecked (body_of deck.now) opened.now)
         (body_of deck.now) memory.old memory.new E.work engines.old engines.new 0) }
+    ensures few { OnOk result (GainsFew 120000 memory.old memory.new) }
     ensures err { OnErr result (IsLost (IsChecked (body_of deck.now) opened.now)
         (DemandsChecked (body_of deck.now) opened.now)
         (body_of deck.now) memory.old memory.new E.work engines.old engines.new) }

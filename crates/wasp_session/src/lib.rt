@@ -12,6 +12,7 @@
 #![tactic(auto)]
 
 mod answer;
+mod best;
 mod checking;
 mod command;
 mod generation;
@@ -22,6 +23,7 @@ mod opened;
 mod plan;
 mod planned;
 mod report;
+mod searching;
 mod session;
 mod settling;
 mod study;

@@ -6,7 +6,7 @@ ghost use Rattle.wasp_session.specs.Inner.{GoesOn, HaveDetailed, IsDeckOn, Tells
 ghost use Rattle.wasp_session.specs.Keys.{Demands};
 ghost use Rattle.wasp_session.specs.Listings.{IsTaken, deck_tunnels};
 ghost use Rattle.wasp_session.specs.Said.{AreCasesTold, IsCaseTold, IsDeckTold};
-ghost use Rattle.wasp_session.specs.Steps.{HasPlaceFor, IsLost, Tells};
+ghost use Rattle.wasp_session.specs.Steps.{GainsFew, HasPlaceFor, IsLost, Tells};
 ghost use Rattle.wasp_session.specs.Studies.{IsOn};
 
 use crate::listing::{ListError, list_cases, own_tunnels, systems_of};
@@ -110,6 +110,7 @@ fn plan_typed<E: SimEngine, R: Threads + Sync>(
     ensures told { OnOk result (Tells (IsDeckTold (body_of typed.now)) (IsTaken (body_of typed.now))
         (Demands (body_of typed.now))
         (body_of typed.now) memory.old memory.new E.work engines.old engines.new text.old text.new 0) }
+    ensures few { OnOk result (GainsFew 120000 memory.old memory.new) }
     ensures err { OnErr result (IsLost (IsTaken (body_of typed.now)) (Demands (body_of typed.now)) (body_of typed.now)
         memory.old memory.new E.work engines.old engines.new) }
     ensures goes_on { GoesOn text.old text.new }
@@ -144,6 +145,7 @@ pub(crate) fn plan_deck<E: SimEngine, R: Threads + Sync>(
     ensures told { OnOk result (Tells (IsDeckTold (body_of deck.now)) (IsTaken (body_of deck.now))
         (Demands (body_of deck.now))
         (body_of deck.now) memory.old memory.new E.work engines.old engines.new text.old text.new 0) }
+    ensures few { OnOk result (GainsFew 120000 memory.old memory.new) }
     ensures err { OnErr result (IsLost (IsTaken (body_of deck.now)) (Demands (body_of deck.now)) (body_of deck.now)
         memory.old memory.new E.work engines.old engines.new) }
     ensures goes_on { GoesOn text.old text.new }

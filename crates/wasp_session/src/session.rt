@@ -6,24 +6,26 @@ ghost use Rattle.deck_lines.specs.Statements.{IsStatement};
 ghost use Rattle.deck_lines.specs.declared.line.Line.TheVariants as lines;
 ghost use Rattle.report_text.specs.Lines.{keys_line};
 ghost use Rattle.wasp_session.specs.Checks.{nos_of, with_line};
-ghost use Rattle.wasp_session.specs.Inner.{GoesOn};
-ghost use Rattle.wasp_session.specs.Keys.{Demands};
-ghost use Rattle.wasp_session.specs.Listings.{IsTaken};
-ghost use Rattle.wasp_session.specs.Modes.{IsOfMode, mode_of};
-ghost use Rattle.wasp_session.specs.Said.{IsPlanTold};
+ghost use Rattle.wasp_session.specs.Inner.{GoesOn, IsLostOn, TellsDeck, TellsPlan};
+ghost use Rattle.wasp_session.specs.Modes.{HasPlans, IsCommand, IsOfMode, mode_of};
 ghost use Rattle.wasp_session.specs.State.{IsState, begun, behind};
-ghost use Rattle.wasp_session.specs.Steps.{DoesLine, IsLost, IsPlaced, IsWantingAt, HasPlaceFor, Tells};
+ghost use Rattle.wasp_session.specs.Steps.{DoesLine, GainsFew, HasPlaceFor, IsPlaced, IsWantingAt};
+ghost use Rattle.wasp_session.specs.Tasks.{head_of, most_keys};
 ghost use Rattle.wasp_session.specs.declared.command.Command.TheVariants as commands;
 ghost use Rattle.wasp_session.specs.declared.command.Step.TheVariants as steps;
 
+use crate::best::{BestOf, rank_deck};
 use crate::checking::judge_deck;
 use crate::command::{Command, Step};
 use crate::memory::Memory;
 use crate::opened::OpenCheck;
 use crate::plan::plan_deck;
+use crate::searching::search_deck;
 use deck_lines::{CertLine, Deck, Head, Line, Mode, Statement};
 use plan_certificate::Verdict;
-use report_text::{Judged, write_heading, write_keys, write_verdict};
+use report_text::{
+    Judged, write_best_heading, write_heading, write_keys, write_search_heading, write_verdict,
+};
 use sim_engine::SimEngine;
 use sim_sweep::Tally;
 use std::alloc::Global;
@@ -71,6 +73,7 @@ impl Model for Session {
 impl Session {
     /// A session of no line. It takes no memory.
     pub fn start(alloc: Global, command: Command) -> Session
+        requires { IsCommand command }
         ensures { result ≡ begun command [] }
     {
         Session::with_deck(alloc, command, Deck::new(alloc))
@@ -78,6 +81,7 @@ impl Session {
 
     /// The same with a deck.
     pub fn with_deck(alloc: Global, command: Command, deck: Deck) -> Session
+        requires { IsCommand command }
         ensures { result ≡ begun command deck }
     {
         Session {
@@ -98,7 +102,7 @@ impl Session {
         ensures { result ≡ mode_of self.now.command self.now.opened }
     {
         match self.command {
-            Command::Plan => Mode::Plan,
+            Command::Plan | Command::Search | Command::Best(_) => Mode::Plan,
             Command::Check => {
                 if self.opened.is_some() {
                     Mode::Certificate
@@ -150,7 +154,54 @@ impl Session {
         self.checks
     }
 
-    /// Writes the heading of the PLAN at hand, and plans the deck.
+    /// Writes the heading of the PLAN at hand.
+    fn head(&self, text: &mut Vec<u8>) -> Result<(), OutOfMemory>
+        ensures appended { OnOk result (text.new.items ≡ text.old.items ++ head_of self.now.command self.now.plans) }
+        ensures kept { OnErr result (text.new.items ≡ text.old.items) }
+    {
+        match self.command {
+            Command::Plan => write_heading(self.plans, text),
+            Command::Check => Ok(()),
+            Command::Search => write_search_heading(self.plans, text),
+            Command::Best(_) => write_best_heading(self.plans, text),
+        }
+    }
+
+    /// Tells what the command tells of the deck.
+    fn tell_deck<E: SimEngine, R: Threads + Sync>(
+        &mut self,
+        rt: &R,
+        engines: &mut [E],
+        text: &mut Vec<u8>,
+    ) -> Result<(), OutOfMemory>
+        requires some { 1 ≤ length engines.old }
+        requires most { length engines.old ≤ 64 }
+        requires plans { HasPlans self.old.command }
+        requires place { HasPlaceFor (most_keys self.old.command) self.old.memory }
+        ensures told { OnOk result (TellsDeck self.old.command self.old.deck self.old.memory self.new.memory
+            E.work engines.old engines.new text.old text.new) }
+        ensures few { OnOk result (GainsFew (most_keys self.old.command) self.old.memory self.new.memory) }
+        ensures err { OnErr result (IsLostOn self.old.command self.old.deck self.old.memory self.new.memory
+            E.work engines.old engines.new) }
+        ensures goes_on { GoesOn text.old text.new }
+        ensures state { self.new ≡ record self.old { memory = self.new.memory } }
+    {
+        let deck = &self.deck;
+        let memory = &mut self.memory;
+        let told = match self.command {
+            Command::Plan => plan_deck(self.alloc, rt, deck, memory, engines, text),
+            Command::Check => Ok(()),
+            Command::Search => search_deck(self.alloc, rt, deck, memory, engines, text),
+            Command::Best(plans) => {
+                rank_deck(self.alloc, rt, BestOf { deck, plans }, memory, engines, text)
+            }
+        };
+        // Its reading tells the proof that the shelf is one.
+        let _shelf = self.memory.shelf();
+        told
+    }
+
+    /// Tells what a PLAN line tells, behind its heading.
     fn tell_plan<E: SimEngine, R: Threads + Sync>(
         &mut self,
         rt: &R,
@@ -159,21 +210,18 @@ impl Session {
     ) -> Result<(), OutOfMemory>
         requires some { 1 ≤ length engines.old }
         requires most { length engines.old ≤ 64 }
-        requires place { HasPlaceFor 120000 self.old.memory }
-        ensures told { OnOk result (Tells (IsPlanTold self.old.plans (body_of self.old.deck))
-            (IsTaken (body_of self.old.deck))
-            (Demands (body_of self.old.deck)) (body_of self.old.deck) self.old.memory self.new.memory
-            E.work engines.old engines.new text.old text.new 0) }
-        ensures err { OnErr result (IsLost (IsTaken (body_of self.old.deck)) (Demands (body_of self.old.deck))
-            (body_of self.old.deck) self.old.memory self.new.memory E.work engines.old engines.new) }
+        requires plans { HasPlans self.old.command }
+        requires place { HasPlaceFor (most_keys self.old.command) self.old.memory }
+        ensures told { OnOk result (TellsPlan self.old.command self.old.plans self.old.deck self.old.memory
+            self.new.memory E.work engines.old engines.new text.old text.new) }
+        ensures few { OnOk result (GainsFew (most_keys self.old.command) self.old.memory self.new.memory) }
+        ensures err { OnErr result (IsLostOn self.old.command self.old.deck self.old.memory self.new.memory
+            E.work engines.old engines.new) }
         ensures goes_on { GoesOn text.old text.new }
         ensures state { self.new ≡ record self.old { memory = self.new.memory } }
     {
-        write_heading(self.plans, text)?;
-        let told = plan_deck(self.alloc, rt, &self.deck, &mut self.memory, engines, text);
-        // Its reading tells the proof that the shelf is one.
-        let _shelf = self.memory.shelf();
-        told
+        self.head(text)?;
+        self.tell_deck(rt, engines, text)
     }
 
     /// Plans the deck, which counts as a PLAN line. After want of memory the text is cut back to what it was.
@@ -185,10 +233,11 @@ impl Session {
     ) -> Result<(), OutOfMemory>
         requires some { 1 ≤ length engines.old }
         requires most { length engines.old ≤ 64 }
-        requires command { self.old.command ≡ commands.Plan }
+        requires command { HasPlans self.old.command }
         requires place { IsPlaced lines.Plan self.old }
         ensures does { OnOk result (DoesLine lines.Plan self.old self.new E.work engines.old engines.new text.old
             text.new) }
+        ensures few { OnOk result (GainsFew (most_keys self.old.command) self.old.memory self.new.memory) }
         ensures err_text { OnErr result (text.new.items ≡ text.old.items) }
         ensures err { OnErr result (IsWantingAt lines.Plan self.old self.new E.work engines.old engines.new) }
         ensures later { IsTrue self.old.refused → IsErr result }
@@ -283,6 +332,7 @@ impl Session {
         requires place { IsPlaced lines.EndCheck self.old }
         ensures does { OnOk result (DoesLine lines.EndCheck self.old self.new E.work engines.old engines.new text.old
             text.new) }
+        ensures few { OnOk result (GainsFew (most_keys self.old.command) self.old.memory self.new.memory) }
         ensures err_text { OnErr result (text.new.items ≡ text.old.items) }
         ensures err { OnErr result (IsWantingAt lines.EndCheck self.old self.new E.work engines.old engines.new) }
         ensures later { IsTrue self.old.refused → IsErr result }
@@ -347,6 +397,7 @@ impl Session {
         requires mode { IsOfMode (mode_of self.old.command self.old.opened) line }
         requires place { IsPlaced line self.old }
         ensures does { OnOk result (DoesLine line self.old self.new E.work engines.old engines.new text.old text.new) }
+        ensures few { OnOk result (GainsFew (most_keys self.old.command) self.old.memory self.new.memory) }
         ensures ended { IfOk result (λ step. (step ≡ steps.Ended) ↔ (line ≡ lines.End)) }
         ensures err_text { OnErr result (text.new.items ≡ text.old.items) }
         ensures err { OnErr result (IsWantingAt line self.old self.new E.work engines.old engines.new) }

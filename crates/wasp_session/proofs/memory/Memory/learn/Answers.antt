@@ -1,4 +1,4 @@
-use Rattle.std.proofs.Common.{◌∙◌, ◌<◌, ◌≤◌, ap, sym, subst, All, Contains, List, ℕ, length, map, arith}
+use Rattle.std.proofs.Common.{◌∙◌, ◌*◌, ◌<◌, ◌≤◌, ap, sym, subst, All, Contains, List, ℕ, length, map, arith}
 use Rattle.deck_check.specs.Readings.{years}
 use Rattle.deck_lines.specs.Deck.{body_of}
 use Rattle.row_shelf.specs.Adds.{FillsCases}
@@ -7,9 +7,9 @@ use Rattle.row_shelf.specs.Shelf.{Grows, ShelfIs}
 use Rattle.sim_sweep.proofs.TogetherSteps.{idle}
 use Rattle.wasp_session.specs.Inner.{IsOfLists}
 use Rattle.wasp_session.specs.State.{MemoryIs}
-use Rattle.wasp_session.specs.Steps.{IsLost, Learns}
+use Rattle.wasp_session.specs.Steps.{GainsFew, IsLost, Learns}
 use Rattle.wasp_session.specs.Studies.{HasYears}
-use Rattle.wasp_session.proofs.ShelfSteps.{few_asked, fit_books, has_years, learnt, lost, numbers_within}
+use Rattle.wasp_session.proofs.ShelfSteps.{few_asked, fit_books, gained, has_years, learnt, lost, numbers_within}
 use Rattle.wasp_session.proofs.WhereErr.{on_err}
 use Rattle.year_system.specs.System.{System}
 use Rattle.wasp_session.proofs.memory.Memory.learn.Goals as goal
@@ -45,7 +45,7 @@ pub fill-filled-requires-clause-place : goal.fill-filled-requires-clause-place
 fill-filled-requires-clause-place g c = λ ks lives.
     let d = body_of c.args.typed.now in
     let few_years : years d ≤ 30 = omega (arith, c.years-years.ensures.value, c.years-years.ensures.high) in
-    let few = few_asked d c.args.cases.now few_years c.requires.few c.requires.lists in
+    let few = few_asked d c.args.cases.now few_years c.requires.lists in
     let old = ap (λ (m : MemoryIs). length m.shelf.kept) c.self.view_is in
     let rows = ap length c.take_in-taken.ensures.rows in
     omega (arith, few, old, rows, c.requires.place.rows)
@@ -81,10 +81,19 @@ returns-clause-learns g c =
     let now : MemoryIs = record { shelf = c.fill-filled.new.self; tally = c.fill-filled.new.tally } in
     let mid = c.take_in-taken.new.self in
     let work = g.E.SimEngine.work in
-    let few_years : years d ≤ 30 = omega (arith, c.years-years.ensures.value, c.years-years.ensures.high) in
     let fills = subst (λ (i : List ℕ). FillsCases i c.args.cases.now mid now.shelf work es fs) c.deref.ensures.value c.in_ok-filled.ensures.filled in
     subst (λ (m : MemoryIs). Learns (Unit {0}) (IsOfLists d c.args.cases.now) d m now work es fs 0) c.self.view_is
     (learnt d c.args.systems.items c.in_ok-ids.ids.items c.args.cases.now old mid now.shelf now.tally work es fs
-    few_years c.requires.few c.requires.lists c.requires.systems c.self.invariant c.systems-systems.ensures.valid
+    c.requires.lists c.requires.systems c.self.invariant c.systems-systems.ensures.valid
     c.in_ok-ids.ensures.numbers c.take_in-taken.ensures.grown c.take_in-taken.ensures.rows
-    c.fill-filled.ensures.book fills c.in_ok-filled.ensures.tally c.in_ok-filled.ensures.few)
+    c.fill-filled.ensures.book fills c.in_ok-filled.ensures.tally)
+
+pub returns-clause-few : goal.returns-clause-few
+returns-clause-few g c =
+    let d = body_of c.args.typed.now in
+    let old : MemoryIs = record { shelf = c.self.inside.shelf; tally = c.self.inside.tally } in
+    let now : MemoryIs = record { shelf = c.fill-filled.new.self; tally = c.fill-filled.new.tally } in
+    let few_years : years d ≤ 30 = omega (arith, c.years-years.ensures.value, c.years-years.ensures.high) in
+    subst (λ (m : MemoryIs). GainsFew (15000 * length c.args.cases.now) m now) c.self.view_is
+    (gained d c.args.systems.items c.args.cases.now old now c.take_in-taken.new.self few_years c.requires.lists c.requires.systems c.systems-systems.ensures.valid
+    c.take_in-taken.ensures.grown c.take_in-taken.ensures.rows c.fill-filled.ensures.book c.in_ok-filled.ensures.few)

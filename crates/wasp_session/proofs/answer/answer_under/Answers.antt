@@ -9,7 +9,7 @@ use Rattle.wasp_session.proofs.LearnSteps.{lost_none, lost_of}
 use Rattle.wasp_session.proofs.ListedKeys.{case_within}
 use Rattle.wasp_session.proofs.StudyOn.{case_on}
 use Rattle.wasp_session.proofs.WhereErr.{on_err}
-use Rattle.wasp_session.proofs.checking.answer_case.Goals as goal
+use Rattle.wasp_session.proofs.answer.answer_under.Goals as goal
 
 pub returns-in_err-systems-clause-err : goal.returns-in_err-systems-clause-err
 returns-in_err-systems-clause-err g c =
