@@ -10,7 +10,7 @@ ghost use Rattle.wasp_session.specs.Inner.{GoesOn, IsLostOn, TellsDeck, TellsPla
 ghost use Rattle.wasp_session.specs.Modes.{HasPlans, IsCommand, IsOfMode, mode_of};
 ghost use Rattle.wasp_session.specs.State.{IsState, begun, behind};
 ghost use Rattle.wasp_session.specs.Steps.{DoesLine, GainsFew, HasPlaceFor, IsPlaced, IsWantingAt};
-ghost use Rattle.wasp_session.specs.Tasks.{head_of, most_keys};
+ghost use Rattle.wasp_session.specs.Tasks.{head_of, most_keys, most_plans};
 ghost use Rattle.wasp_session.specs.declared.command.Command.TheVariants as commands;
 ghost use Rattle.wasp_session.specs.declared.command.Step.TheVariants as steps;
 
@@ -143,6 +143,16 @@ impl Session {
         ensures valid { IsState self.now }
     {
         self.plans
+    }
+
+    /// The most PLAN lines that a script of its command may have.
+    pub fn most_plans(&self) -> u64
+        ensures { result ≡ most_plans self.now.command }
+    {
+        match self.command {
+            Command::Search => 3,
+            Command::Plan | Command::Check | Command::Best(_) => 64,
+        }
     }
 
     /// How many CHECK lines there were.
