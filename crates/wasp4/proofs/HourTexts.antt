@@ -1,8 +1,12 @@
 -- What is written of hourly loads, and the words that ask for it.
-use Rattle.std.proofs.Common.{◌≡◌, ◌≢◌, ◌∙◌, refl, sym, ap, subst, ℕ, ◌+◌, ◌<◌, ◌≤◌, Bool, true, false, List, [], ◌∷◌, ◌++◌, length, Option, None, Some, arith}
+use Rattle.std.proofs.Common.{◌≡◌, ◌≢◌, ◌∙◌, refl, sym, ap, subst, ℕ, ◌+◌, ◌<◌, ◌≤◌, Bool, true, false, List, [], ◌∷◌, ◌++◌, length, Option, None, Some, inl, inr, codes, arith}
 use Rattle.std.specs.Prelude.{IfSome, Ok, Err, ◌==◌, if◌then◌else◌}
 use Rattle.std.specs.Io.KnownBytes.{Appends, Keeps}
+use Rattle.std.specs.Str.{bytes_eq}
+use Rattle.std.proofs.lemmas.Bool.{cases_Bool}
 use Rattle.std.proofs.lemmas.List.{length-append}
+use Rattle.std.proofs.lemmas.Slice.Eq.{bytes_eq-Decides}
+use Rattle.deck_lines.specs.Words.{number_of}
 use Rattle.deck_lines.specs.declared.fault.LineFault.{LineFault}
 use Rattle.hourly_load.specs.Hours.{IsHourly}
 use Rattle.hourly_load.specs.Texts.{hourly_text}
@@ -13,7 +17,7 @@ use Rattle.wasp_io.specs.Known.{IsSureWithin}
 use Rattle.wasp4.specs.declared.status.Ending.{Ending}
 use Rattle.wasp4.specs.declared.status.Ending.TheVariants as endings
 use Rattle.wasp4.specs.Hours.{AnswersHours, CutsHours, HasRoomForHours, SaysHours, loads_of}
-use Rattle.wasp4.specs.Out.{accepted, asked_by, hours_points, with_engines}
+use Rattle.wasp4.specs.Out.{accepted, asked_by, asked_of_two, hours_points, points_behind, points_within, with_engines}
 use Rattle.wasp4.specs.declared.asked.Asked.{Asked}
 use Rattle.wasp4.specs.Progress.{IsCutShort, status_of}
 
@@ -49,11 +53,25 @@ cuts points before written written' said ending says cut = record { said = said;
 
 -- ---- the words
 
+-- what `hours` asks for is not asked for by `best`
+not_best : (word number : List ℕ) (points : ℕ) → points_behind word number ≡ Some points → asked_of_two word number ≡ None
+not_best word number points e =
+    elim (cases_Bool (bytes_eq word (codes "hours"))) [
+      | inl is ↦ subst (λ (w : List ℕ). asked_of_two w number ≡ None) (sym (same_word word (codes "hours") is)) refl
+      | inr no ↦ absurd (none_some points (sym (ap (λ (b : Bool). if b then points_within (number_of number) else None) no) ∙ e))
+    ]
+  where
+    same_word : (xs ys : List ℕ) → bytes_eq xs ys ≡ true → xs ≡ ys
+    same_word xs ys is = grind (arith, bytes_eq-Decides xs ys)
+
+    none_some : (n : ℕ) → None ≡ Some n → ⊥
+    none_some n h = cc
+
 -- they ask for no script
 two_words : (words : List (List ℕ)) (points : ℕ) → hours_points words ≡ Some points → asked_by words ≡ None
 two_words [] points e = refl
 two_words (word ∷ []) points e = absurd cc
-two_words (word ∷ number ∷ []) points e = refl
+two_words (word ∷ number ∷ []) points e = not_best word number points e
 two_words (word ∷ number ∷ other ∷ words) points e = absurd cc
 
 pub no_script : (words : List (List ℕ)) (engines points : ℕ) → hours_points words ≡ Some points → accepted words engines ≡ None
