@@ -58,7 +58,7 @@ not_best : (word number : List ℕ) (points : ℕ) → points_behind word number
 not_best word number points e =
     elim (cases_Bool (bytes_eq word (codes "hours"))) [
       | inl is ↦ subst (λ (w : List ℕ). asked_of_two w number ≡ None) (sym (same_word word (codes "hours") is)) refl
-      | inr no ↦ absurd (none_some points (sym (ap (λ (b : Bool). if b then points_within (number_of number) else None) no) ∙ e))
+      | inr other ↦ absurd (none_some points (sym (ap (λ (b : Bool). if b then points_within (number_of number) else None) other) ∙ e))
     ]
   where
     same_word : (xs ys : List ℕ) → bytes_eq xs ys ≡ true → xs ≡ ys
