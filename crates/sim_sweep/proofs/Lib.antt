@@ -5,7 +5,6 @@ mod DemandSteps
 mod DueSteps
 mod FillSteps
 mod GatherSteps
-mod JobSteps
 mod JoinSteps
 mod KeepSteps
 pub mod OutcomeSteps
@@ -13,6 +12,7 @@ mod ParallelSteps
 mod PlaceSteps
 pub mod RunLaws
 mod SharedSteps
+mod SolveSteps
 mod TallySteps
 pub mod TogetherSteps
 pub mod WorkSteps

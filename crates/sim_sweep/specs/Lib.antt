@@ -5,7 +5,7 @@ pub mod Filling
 pub mod Keeping
 pub mod Kept
 pub mod Places
-pub mod Settles
+pub mod Solves
 pub mod Told
 pub mod Workers
 pub mod Works

@@ -2,10 +2,9 @@
 //!
 //! The module MERSIM of the IAEA's Computer Manual Series No. 16 leaves out what was already simulated: `keep_rows`
 //! has 1 to 64 engines simulate each demanded key whose row is not kept, once, by one of them, on a board that their
-//! workers share (`sweep`), and keeps its row under the key's code; `fill` does it with one engine and no board. After
-//! either each demanded code is kept with its simulated row, what was kept stays, and nothing else is kept.
-//! `case_table` answers the accepted configurations of a case by the kept rows, `solve_table` the least-cost plan over
-//! them, and `settle` does both for several cases side by side.
+//! workers share (`sweep`), and keeps its row under the key's code. Then each demanded code is kept with its simulated row,
+//! what was kept stays, and nothing else is kept. `case_table` answers the accepted configurations of a case by the kept
+//! rows, `solve_table` the least-cost plan over them, and `solve_all` those over several tables side by side.
 //!
 //! The codes, and that the rows lie in rising order of code, are this program's own. A row is found in a number of
 //! steps that grows with the logarithm of the number of rows; a board costs a copy of all rows. Only want of memory is
@@ -15,13 +14,12 @@
 mod case;
 mod demand;
 mod due;
-mod filling;
-mod jobs;
 mod keeping;
 mod kept;
 mod laws;
 mod parallel;
 mod settling;
+mod solving;
 mod sweeping;
 mod tally;
 mod worker;
@@ -29,8 +27,6 @@ mod worker;
 pub use case::{CaseDone, CaseJob};
 pub use demand::Demand;
 pub use due::DueRows;
-pub use filling::fill;
-pub use jobs::settle;
 pub use keeping::keep_rows;
 pub use kept::Kept;
 pub use laws::{
@@ -38,5 +34,6 @@ pub use laws::{
     new_runs_come_once,
 };
 pub use settling::{case_table, solve_table};
+pub use solving::solve_all;
 pub use sweeping::{split_for, sweep};
 pub use tally::Tally;

@@ -1,6 +1,7 @@
 mod AcceptedSteps
 mod ApartSteps
 mod CaseStudies
+mod CaseTables
 mod CaseTellings
 mod CheckSteps
 mod DetailSteps

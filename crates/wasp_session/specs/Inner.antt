@@ -17,9 +17,10 @@ use Rattle.plan_program.specs.Plans.{entry_at}
 use Rattle.plant_data.specs.declared.row.Limit.{Limit}
 use Rattle.row_shelf.specs.Asked.{EachAt}
 use Rattle.sim_engine.specs.Engine.{Run, Work}
+use Rattle.sim_sweep.specs.Cases.{Done}
 use Rattle.sim_sweep.specs.Works.{HaveWorked}
 use Rattle.wasp_session.specs.Case.{IsTableOf}
-use Rattle.wasp_session.specs.Listings.{AreWithin, IsOverIn, Tunnels}
+use Rattle.wasp_session.specs.Listings.{AreWithin, IsOverIn, Tunnels, deck_tunnels}
 use Rattle.wasp_session.specs.State.{MemoryIs}
 use Rattle.wasp_session.specs.Steps.{IsLost, Tells}
 use Rattle.wasp_session.specs.Tasks.{deck_told, task_of}
@@ -130,6 +131,18 @@ abbrev pub IsAnswerUnder : Says → ℕ → Tunnels → CaseAnswer → Type 0
 IsAnswerUnder d c tunnels (answers.Table table) = HasTable d c tunnels table
 IsAnswerUnder d c tunnels (answers.Over r) = IsOverIn d c tunnels r
 
+-- ---- settled cases
+
+-- the table of a case under the deck's own tunnels
+pub record IsOwnTable (d : Says) (c : ℕ) (table : Table) : Type 0 where
+  pub is : IsTableOf d c (deck_tunnels d c) table
+  pub width : candidate_counts table.economy ≡ greatest d
+
+-- those of the cases from one on
+abbrev pub AreTablesFrom : Says → ℕ → List Table → Type 0
+AreTablesFrom d c [] = Unit {0}
+AreTablesFrom d c (table ∷ tables) = IsOwnTable d c table × AreTablesFrom d (c + 1) tables
+
 -- ---- the study of all cases of a deck, each under the deck's own tunnels
 
 pub record DeckStudyIs : Type 0 where
@@ -145,3 +158,8 @@ pub record IsDeckStudy (s : DeckStudyIs) : Type 0 where
 pub record IsDeckOn (shelf : ShelfIs) (s : DeckStudyIs) : Type 0 where
   pub numbers : HasYears (body_of s.deck) shelf.book s.ids
   pub rows : (key : Run) → IsKeyOf (body_of s.deck) key → Holds shelf key
+
+-- each of its cases is settled, in their order
+pub record AreSettled (s : DeckStudyIs) (dones : List Done) : Type 0 where
+  pub many : length dones ≡ length s.cases
+  pub tables : AreTablesFrom (body_of s.deck) 1 (map (λ done. done.table) dones)

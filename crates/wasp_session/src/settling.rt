@@ -1,9 +1,8 @@
-//! The table of a case and its solution.
+//! The table of a case.
 ghost use Rattle.std.specs.Prelude.{◌≡◌, ◌≤◌, IfOk};
 ghost use Rattle.cost_terms.specs.CostData.{greatest as candidate_counts};
 ghost use Rattle.deck_check.specs.Readings as says;
 ghost use Rattle.deck_lines.specs.Deck.{body_of};
-ghost use Rattle.plan_program.specs.Chosen.{IsSolution};
 ghost use Rattle.wasp_session.specs.Case.{IsTableOf};
 ghost use Rattle.wasp_session.specs.Inner.{AreLimits};
 ghost use Rattle.wasp_session.specs.Studies.{IsOn};
@@ -13,7 +12,6 @@ use checked_deck::TypedDeck;
 use cost_terms::CaseTable;
 use plant_data::{Limit, Listed};
 use row_shelf::Shelf;
-use sim_sweep::{CaseDone, solve_table};
 use std::alloc::Global;
 use wasp_fixed::OutOfMemory;
 
@@ -44,16 +42,4 @@ pub(crate) fn table_of(
     let limits = limits_of(alloc, typed, study.case())?;
     let economy = typed.economy(alloc)?;
     shelf.table(study.ids(), study.lists(), economy, limits)
-}
-
-/// The table of a case, and its solution.
-pub(crate) fn settle(alloc: Global, study: &Study, shelf: &Shelf) -> Result<CaseDone, OutOfMemory>
-    requires on { IsOn shelf.now study.now }
-    ensures table { IfOk result (λ done. IsTableOf (body_of study.now.deck) study.now.case study.now.tunnels
-        done.table) }
-    ensures width { IfOk result (λ done. candidate_counts done.table.economy ≡ says.greatest (body_of study.now.deck)) }
-    ensures solution { IfOk result (λ done. IsSolution done.table done.solved) }
-{
-    let table = table_of(alloc, study, shelf)?;
-    solve_table(alloc, table)
 }

@@ -5,9 +5,9 @@ use Rattle.report_text.specs.Refusals.{refusal_line}
 use Rattle.report_text.specs.declared.refusals.Refusal.{Refusal}
 use Rattle.wasp_session.specs.Keys.{Demands}
 use Rattle.wasp_session.specs.Listings.{IsTaken}
-use Rattle.wasp_session.proofs.LearnSteps.{lost_none}
+use Rattle.wasp_session.proofs.LearnSteps.{lost_none, lost_of}
 use Rattle.wasp_session.proofs.OverSteps.{over_not_taken, over_refusal}
-use Rattle.wasp_session.proofs.PlanTold.{deck_lost, deck_lost_telling, deck_told, refusal_told}
+use Rattle.wasp_session.proofs.PlanTold.{deck_learns, deck_lost, deck_lost_telling, deck_told, refusal_told}
 use Rattle.wasp_session.proofs.StudyOn.{deck_on}
 use Rattle.wasp_session.proofs.WhereErr.{on_err}
 use Rattle.wasp_session.proofs.plan.plan_typed.Goals as goal
@@ -23,10 +23,24 @@ returns-in_err-ids-in-Ok-clause-err g c =
     (deck_lost {X = g.row.E.Denot} (body_of c.args.typed.now) c.in-Ok.cases.items c.args.memory.now c.learn.new.self g.E.SimEngine.work c.args.engines.now c.learn.new.engines
     c.years-years.ensures.valid.faultless c.in-Ok.ensures.lists (rw c.deref-in-Ok.ensures.value at c.in_err-ids-in-Ok.ensures.err))
 
-pub tell_by_first-requires-clause-on : goal.tell_by_first-requires-clause-on
-tell_by_first-requires-clause-on g c κs within =
+pub settle_cases-requires-clause-on : goal.settle_cases-requires-clause-on
+settle_cases-requires-clause-on g c κs within =
     deck_on {X = g.row.E.Denot} c.args.typed.now c.in-Ok.cases.items c.in_ok-ids-in-Ok.ids.items c.new-plan.result c.shelf.result.now c.args.memory.now c.learn.new.self g.E.SimEngine.work c.args.engines.now c.learn.new.engines
     (rw c.deref-in-Ok-3.ensures.value at (rw c.deref-in-Ok-2.ensures.value at c.new-plan.ensures)) c.shelf.ensures.value c.years-years.ensures.valid.faultless c.in-Ok.ensures.lists c.in_ok-ids-in-Ok.ensures.numbers
+    (rw c.deref-in-Ok.ensures.value at c.in_ok-ids-in-Ok.ensures.learns)
+
+pub returns-in_err-dones-in-Ok-clause-err : goal.returns-in_err-dones-in-Ok-clause-err
+returns-in_err-dones-in-Ok-clause-err g c =
+    let d = body_of c.args.typed.now in
+    on_err c.from_residual-in_err-dones-in-Ok.result _
+    (lost_of {X = g.row.E.Denot} (IsTaken d) (Demands d) d c.args.memory.now c.learn.new.self g.E.SimEngine.work c.args.engines.now c.learn.new.engines 0
+    (deck_learns {X = g.row.E.Denot} d c.in-Ok.cases.items c.args.memory.now c.learn.new.self g.E.SimEngine.work c.args.engines.now c.learn.new.engines c.years-years.ensures.valid.faultless c.in-Ok.ensures.lists
+    (rw c.deref-in-Ok.ensures.value at c.in_ok-ids-in-Ok.ensures.learns)))
+
+pub tell_by_first-requires-clause-on : goal.tell_by_first-requires-clause-on
+tell_by_first-requires-clause-on g c κs within =
+    deck_on {X = g.row.E.Denot} c.args.typed.now c.in-Ok.cases.items c.in_ok-ids-in-Ok.ids.items c.new-plan.result c.shelf-in-Ok.result.now c.args.memory.now c.learn.new.self g.E.SimEngine.work c.args.engines.now c.learn.new.engines
+    (rw c.deref-in-Ok-3.ensures.value at (rw c.deref-in-Ok-2.ensures.value at c.new-plan.ensures)) c.shelf-in-Ok.ensures.value c.years-years.ensures.valid.faultless c.in-Ok.ensures.lists c.in_ok-ids-in-Ok.ensures.numbers
     (rw c.deref-in-Ok.ensures.value at c.in_ok-ids-in-Ok.ensures.learns)
 
 pub returns-in-Ok-clause-told : goal.returns-in-Ok-clause-told

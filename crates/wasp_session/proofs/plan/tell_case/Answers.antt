@@ -1,13 +1,14 @@
-use Rattle.std.proofs.Common.{[], ◌∷◌}
+use Rattle.std.proofs.Common.{sym, subst, [], ◌∷◌}
+use Rattle.wasp_session.specs.Case.{IsTableOf}
+use Rattle.wasp_session.specs.Listings.{Tunnels}
 use Rattle.std.proofs.lemmas.Result.{on_ok_weaker}
 use Rattle.deck_lines.specs.Deck.{body_of}
 use Rattle.wasp_session.proofs.AcceptedSteps.{report_accepted, same_width}
 use Rattle.wasp_session.proofs.CaseTellings.{case_told, on_written}
-use Rattle.wasp_session.proofs.DetailSteps.{detailed_none}
 use Rattle.wasp_session.proofs.plan.tell_case.Goals as goal
 
-pub returns-in_err-done-clause-gone : goal.returns-in_err-done-clause-gone
-returns-in_err-done-clause-gone g c = detailed_none (g.E.SimEngine.work c.args.engine.now ∷ [])
+pub report_case-requires-clause-solution : goal.report_case-requires-clause-solution
+report_case-requires-clause-solution g c κs within = record { come = c.table-table.ensures.valid.come; outcome = c.table-table.ensures.valid.outcome }
 
 pub returns-clause-told : goal.returns-clause-told
 returns-clause-told g c =
@@ -17,7 +18,7 @@ returns-clause-told g c =
     let report = c.in_ok-report.report in
     let is = c.in_ok-report.ensures in
     let valid = c.case.ensures.valid in
-    let width = same_width d s.case s.tunnels c.in_ok-done.done.table report.table c.in_ok-done.ensures.table c.in_ok-done.ensures.width is.report.table in
+    let width = same_width d s.case s.tunnels c.args.done.table report.table (subst (λ (ts : Tunnels). IsTableOf d s.case ts c.args.done.table) (sym c.requires.own) c.requires.table.is) c.requires.table.width is.report.table in
     let accepted = report_accepted c.reports_read_back.ensures c.solutions_are_certified.ensures c.readings_are_one.ensures d s.case s.tunnels report s.lists
     valid.typed.faultless valid.case.1 c.requires.own valid.lists is.report width is.table is.in_form is.printable in
     on_ok_weaker c.write_case.result

@@ -1,6 +1,7 @@
-use Rattle.std.proofs.Common.{[], ◌∷◌}
+use Rattle.std.proofs.Common.{◌≡◌, ◌+◌, [], ◌∷◌, length, map}
 use Rattle.deck_lines.specs.Deck.{body_of}
-use Rattle.wasp_session.specs.Inner.{GoesOn, HaveDetailed, TellsBy}
+use Rattle.sim_sweep.specs.Cases.{Done}
+use Rattle.wasp_session.specs.Inner.{AreTablesFrom, GoesOn, HaveDetailed, TellsBy}
 use Rattle.wasp_session.specs.Said.{AreCasesTold}
 use Rattle.wasp_session.proofs.plan.tell_cases.Given as goal
 
@@ -8,6 +9,8 @@ abbrev pub invariant-loop-c : goal.invariant-loop-c
 invariant-loop-c g l =
     let e = g.E.SimEngine in
     record {
+      many : l.c + length l.dones.items ≡ length l.plan.cases;
+      tables : AreTablesFrom (body_of l.plan.deck) (l.c + 1) (map (λ (done : Done). done.table) l.dones.items);
       told : TellsBy (AreCasesTold (body_of l.plan.deck) l.c) (e.work l.initial.engine) (e.work l.engine) l.initial.text l.text;
       gone : HaveDetailed (e.work l.initial.engine ∷ []) (e.work l.engine ∷ []);
       goes_on : GoesOn l.initial.text l.text;
