@@ -14,6 +14,7 @@
 
 mod come;
 mod laws;
+mod sieve;
 mod solved;
 mod solving;
 mod trace;
