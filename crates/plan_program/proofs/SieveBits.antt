@@ -41,9 +41,9 @@ marks_more row at n small within h i b =
     (λ other.
     let before : bit_at (get_or row (at i) 0) i ≡ 1 = h i (omega (arith, b, other)) in
     ⊎_elim
-        (λ (here : at i ≡ at n). rw here (rw (get_or-set_same row (at n) word 0 within) (or_first (get_or row (at n) 0) (1 * 2 ^ n % 18446744073709551616) i (subst (λ k. bit_at (get_or row k 0) i ≡ 1) here before))))
-        (λ there. rw (get_or-set_other row (at n) (at i) word 0 there) before)
-        (cases_eq (at i) (at n)))
+    (λ (here : at i ≡ at n). rw here (rw (get_or-set_same row (at n) word 0 within) (or_first (get_or row (at n) 0) (1 * 2 ^ n % 18446744073709551616) i (subst (λ k. bit_at (get_or row k 0) i ≡ 1) here before))))
+    (λ there. rw (get_or-set_other row (at n) (at i) word 0 there) before)
+    (cases_eq (at i) (at n)))
     (cases_eq i n)
 
 -- the words before the nth have the bits of those before them
@@ -60,9 +60,9 @@ spreads_more old new n some within h =
       done = λ u v i b d e. ⊎_elim
           (λ (same : v ≡ n).
           rw same (rw (get_or-set_same new n word 0 within) (⊎_elim
-              (λ (here : u ≡ n). or_first (get_or new n 0) (get_or new (n - 1) 0) i (rw (h.kept n (omega arith)) (subst (λ k. bit_at (get_or old k 0) i ≡ 1) here e)))
-              (λ before. or_second (get_or new n 0) (get_or new (n - 1) 0) i (h.done u (n - 1) i (omega (arith, b, same, before, some)) (omega (arith, some)) e))
-              (cases_eq u n))))
+          (λ (here : u ≡ n). or_first (get_or new n 0) (get_or new (n - 1) 0) i (rw (h.kept n (omega arith)) (subst (λ k. bit_at (get_or old k 0) i ≡ 1) here e)))
+          (λ before. or_second (get_or new n 0) (get_or new (n - 1) 0) i (h.done u (n - 1) i (omega (arith, b, same, before, some)) (omega (arith, some)) e))
+          (cases_eq u n))))
           (λ other. rw (get_or-set_other new n v word 0 other) (h.done u v i b (omega (arith, d, other)) e))
           (cases_eq v n);
       kept = λ v b. get_or-set_other new n v word 0 (λ same. omega (arith, b, same)) ∙ h.kept v (omega (arith, b));
@@ -89,8 +89,7 @@ pub first_left : (mask skip : ℕ) → skip < 64 → mask < 18446744073709551616
     (skip ≤ trailing_zeros w64 (bit_and mask (18446744073709551615 * 2 ^ skip % 18446744073709551616))) × ((i : ℕ) → skip ≤ i → i < trailing_zeros w64 (bit_and mask (18446744073709551615 * 2 ^ skip % 18446744073709551616)) → bit_at mask i ≡ 0)
 first_left mask skip small fits some =
     let rest = bit_and mask (18446744073709551615 * 2 ^ skip % 18446744073709551616) in
-    let at = bit_at-trailing_zeros w64 rest some (omega (arith, fits, and_le_l mask (18446744073709551615 * 2 ^ skip % 18446744073709551616))) in
-    (
+    let at = bit_at-trailing_zeros w64 rest some (omega (arith, fits, and_le_l mask (18446744073709551615 * 2 ^ skip % 18446744073709551616))) in (
       ⊎_elim
           (λ (below : trailing_zeros w64 rest < skip).
           let none : bit_at rest (trailing_zeros w64 rest) ≡ 0 =

@@ -145,7 +145,13 @@ pub fn next(sieve: &Sieve, starts: &[Start], to: &Config, from: usize) -> usize
     let blocks = sieve.as_slice();
     for w in from / 64..blocks.len() {
         let base = 64 * w;
-        let bit = next_in(blocks[w].as_slice(), starts, base, to, from.max(base) - base);
+        let bit = next_in(
+            blocks[w].as_slice(),
+            starts,
+            base,
+            to,
+            from.max(base) - base,
+        );
         if bit < 64 {
             return (base + bit).min(starts.len());
         }
