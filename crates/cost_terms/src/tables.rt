@@ -100,10 +100,12 @@ fn project_sums(
     requires horizon { IsHorizon horizon.now }
     ensures { IfOk result (λ row. AreProjectSums horizon.now group.now row.items) }
 {
-    let count = group.greatest + 1;
-    let mut row = Vec::with_capacity(alloc, count as usize)?;
-    for n in 0..count {
-        row.push(NOTHING.add_projects(group, 0, n, horizon))?;
+    let mut row = Vec::with_capacity(alloc, group.greatest as usize + 1)?;
+    let mut sums = NOTHING;
+    row.push(sums)?;
+    for n in 0..group.greatest {
+        sums = sums.add_projects(group, n, n + 1, horizon);
+        row.push(sums)?;
     }
     Ok(row)
 }
