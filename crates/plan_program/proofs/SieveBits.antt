@@ -1,12 +1,12 @@
 -- Bits of the words of a sieve.
-use Rattle.std.proofs.Common.{◌≡◌, ℕ, ◌+◌, ◌-◌, ◌*◌, ◌%◌, ◌^◌, ◌<◌, ◌≤◌, List, set, length, get_or, min, max, bit_and, bit_or, w64, sym, ap, ◌∙◌, arith, subst, ⊎_elim, refl}
+use Rattle.std.proofs.Common.{◌≡◌, ℕ, ◌+◌, ◌-◌, ◌*◌, ◌%◌, ◌^◌, ◌<◌, ◌≤◌, List, set, length, get_or, min, max, bit_and, bit_or, w64, sym, ap, ◌∙◌, arith, subst, ⊎_elim}
 use Rattle.std.proofs.lemmas.Bool.{cases_eq, cases_lt}
 use Rattle.std.proofs.lemmas.List.{get_or-set_other, get_or-set_same, get_or_past, length-set}
 use Rattle.std.proofs.lemmas.Nat.Bits.{bit_at-lt, bit_at-trailing_zeros, bit_at-zero, bit_at_and, bit_at_mask_below, bit_at_mask_inside, bit_at_or, bit_at_set_same, ones_shl}
 use Rattle.std.proofs.lemmas.Nat.{and_le_l}
 use Rattle.std.specs.Int.{bit_at, trailing_zeros}
 use Rattle.plant_data.specs.Configs.{IsAtMost}
-use Rattle.plan_program.specs.Sieve.{HasBit, IsBlock, count_at}
+use Rattle.plan_program.specs.Sieve.{HasBit, IsBlock}
 use Rattle.plan_program.specs.Starts.{start_at}
 use Rattle.plan_program.specs.declared.come.Start.{Start}
 

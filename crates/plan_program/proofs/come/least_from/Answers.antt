@@ -1,4 +1,4 @@
-use Rattle.std.proofs.Common.{◌≡◌, ◌∙◌, ◌+◌, ◌-◌, ap, arith, length, map, subst, sym}
+use Rattle.std.proofs.Common.{◌≡◌, ◌∙◌, ◌+◌, ap, arith, length, map, subst, sym}
 use Rattle.plant_data.specs.Configs.{IsAtMost}
 use Rattle.plan_program.specs.Starts.{IsSettled, reached_of, start_at}
 use Rattle.plan_program.specs.Steps.{IsLeastFrom, reached_at}

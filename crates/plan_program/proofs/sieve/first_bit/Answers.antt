@@ -1,4 +1,4 @@
-use Rattle.std.proofs.Common.{◌≡◌, ◌≢◌, ◌<◌, ℕ, bit_and, ◌*◌, ◌^◌, ◌%◌, arith}
+use Rattle.std.proofs.Common.{◌≢◌, ◌<◌, ℕ, bit_and, ◌*◌, ◌^◌, ◌%◌, arith}
 use Rattle.plan_program.proofs.SieveBits.{first_left, none_left}
 use Rattle.plan_program.proofs.sieve.first_bit.Goals.{Else-rest-eq0}
 use Rattle.plan_program.proofs.sieve.first_bit.Goals as goal

@@ -1,4 +1,4 @@
-use Rattle.std.proofs.Common.{◌≡◌, ◌+◌, ◌*◌, arith}
+use Rattle.std.proofs.Common.{◌+◌, ◌*◌, arith}
 use Rattle.plan_program.proofs.SieveBits.{NoneFrom, none_more}
 use Rattle.plan_program.proofs.sieve.next.Goals.{After-next_in-bit}
 use Rattle.plan_program.proofs.sieve.next.Goals as goal

@@ -1,4 +1,3 @@
-use Rattle.std.proofs.Common.{length}
 use Rattle.plan_program.proofs.SieveBits.{AreSpread}
 use Rattle.plan_program.proofs.sieve.spread.Given as goal
 
