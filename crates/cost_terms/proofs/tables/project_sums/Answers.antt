@@ -1,4 +1,4 @@
-use Rattle.std.proofs.Common.{◌≡◌, ◌∙◌, ℕ, ◌+◌, ◌<◌, ◌∷◌, [], arith, ap, get_or, length, sym, subst, ⊎_elim}
+use Rattle.std.proofs.Common.{◌∙◌, ◌+◌, ◌∷◌, [], arith, sym, subst, ⊎_elim}
 use Rattle.std.proofs.Math.ListN.{get_or-append}
 use Rattle.std.proofs.lemmas.Bool.{cases_eq}
 use Rattle.std.proofs.lemmas.List.{get_or_push, length-append}
