@@ -1,5 +1,5 @@
 #!/bin/sh
-# Times the least-cost plan of 30 years with 125, 250 and 500 configurations each, and the listing of a tunnel of
+# Times the least-cost plan of 30 years with 10 to 500 configurations each, and the listing of a tunnel of
 # 984,064, beside a plain Rust program of the same work. For each the least of many runs, taken in turn. It
 # first proves a copy of the crates.
 set -eu

@@ -1,5 +1,6 @@
 pub mod Additivity
 pub mod Amounts
+mod Apart
 pub mod Columns
 pub mod Detours
 pub mod FactorBounds

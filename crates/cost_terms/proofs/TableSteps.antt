@@ -20,6 +20,7 @@ use Rattle.cost_terms.specs.declared.tables.Standing.{Standing}
 use Rattle.cost_terms.specs.declared.tables.StepTable.{StepTable}
 use Rattle.wasp_fixed.specs.Discounts.{end_factor}
 use Rattle.plant_data.specs.Configs.{IsAtMost}
+use Rattle.cost_terms.proofs.Additivity.{projects_even}
 use Rattle.cost_terms.proofs.Amounts.{both_most, worth_most}
 use Rattle.cost_terms.proofs.Detours.{AreGrowing, domestic_per_unit, foreign_per_unit, groups_sum, inventory_per_unit, sum_of, sums_even}
 use Rattle.cost_terms.proofs.FactorBounds.{end_later, end_most}
@@ -232,3 +233,7 @@ from_nothing_at c costs t config thermal totals same v p q w few =
     from_nothing c t config thermal totals v.sees
     (subst (λ (x : CostData). Adds t.horizon nothing (map (λ (s : ThermalCost × (ℕ × ℕ)). added_units s.0 (s.1.1 - s.1.0)) (thermal_steps x (nothing_built x) config)) thermal) same p)
     (subst (λ (x : CostData). Adds t.horizon thermal (flat_map (λ (s : GroupCost × (ℕ × ℕ)). added_projects s.0 s.1.0 s.1.1) (group_steps x (nothing_built x) config)) totals) same q) w few
+
+-- the sums over one more project
+pub project_next : (h : Horizon) (g : GroupCost) (n : ℕ) (a b : Totals) → Adds h nothing (added_projects g 0 n) a → Adds h a (added_projects g n (n + 1)) b → Adds h nothing (added_projects g 0 (n + 1)) b
+project_next h g n a b p q = subst (λ (xs : List Item). Adds h nothing xs b) (projects_even g 0 n (n + 1) (omega arith) (omega arith)) (adds_more h nothing a b (added_projects g 0 n) (added_projects g n (n + 1)) p q)

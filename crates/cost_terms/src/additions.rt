@@ -215,6 +215,7 @@ impl Totals {
         ensures adds { Adds horizon.now self.now (added_projects group.now from to) result }
         ensures within { IsWithin horizon.now result }
         ensures mw { result.mw ≤ self.now.mw + 300000 }
+        ensures each { result.mw ≤ self.now.mw + 20000 * (to - from) }
     {
         let projects = group.projects.as_slice();
         let first = (group.existing + from) as usize;

@@ -12,10 +12,10 @@ ghost use Rattle.cost_terms.specs.Totals.{Adds, IsHorizon, IsWithin, nothing};
 use crate::additions::{Horizon, NOTHING, Totals, units_salvage};
 use crate::economy::Economy;
 use crate::prices::{CostData, GroupCost, ThermalCost};
-use crate::terms::{both_worth, horizon_of};
+use crate::terms::horizon_of;
 use plant_data::{Config, Listed};
 use std::alloc::{AllocError, Global};
-use wasp_fixed::{ONE, mul_div_floor};
+use wasp_fixed::ONE;
 
 /// The tables of a year of an economy.
 ///
@@ -52,6 +52,20 @@ pub struct Standing {
     pub projects: u64,
     /// What all costs if it is built in the year, net of salvage, in dollars of present worth.
     pub net: u64,
+}
+
+/// Two amounts, each times a factor of at most `ONE`, in parts of `ONE`: one floor for their sum. What an amount
+/// has below `ONE` is taken apart, so that no division is longer than 64 bits.
+#[tactic(auto, using(crate::proofs::Apart::worth_apart, crate::proofs::Apart::whole_part, crate::proofs::Apart::rest_part))]
+fn both_in_parts(domestic: u64, factor: u64, foreign: u64, factor_abroad: u64) -> u64
+    requires domestic { domestic ≤ 2000000000000000 }
+    requires factor { factor ≤ ONE }
+    requires foreign { foreign ≤ 2000000000000000 }
+    requires abroad { factor_abroad ≤ ONE }
+    ensures { result ≡ (domestic * factor + foreign * factor_abroad) / ONE }
+{
+    let whole = domestic / ONE * factor + foreign / ONE * factor_abroad;
+    whole + (domestic % ONE * factor + foreign % ONE * factor_abroad) / ONE
 }
 
 /// The salvage of each number of a candidate's units.
@@ -100,10 +114,12 @@ fn project_sums(
     requires horizon { IsHorizon horizon.now }
     ensures { IfOk result (λ row. AreProjectSums horizon.now group.now row.items) }
 {
-    let count = group.greatest + 1;
-    let mut row = Vec::with_capacity(alloc, count as usize)?;
-    for n in 0..count {
-        row.push(NOTHING.add_projects(group, 0, n, horizon))?;
+    let mut row = Vec::with_capacity(alloc, group.greatest as usize + 1)?;
+    let mut sums = NOTHING;
+    row.push(sums)?;
+    for n in 0..group.greatest {
+        sums = sums.add_projects(group, n, n + 1, horizon);
+        row.push(sums)?;
     }
     Ok(row)
 }
@@ -227,8 +243,8 @@ impl StepTable {
         ensures value { result ≡ (domestic * self.now.worth + foreign * self.now.abroad) / ONE - salvage + inventory * (self.now.worth - self.now.horizon.domestic) / ONE }
         ensures small { result ≤ 10 ^ 16 }
     {
-        let built = both_worth(domestic, self.worth, foreign, self.abroad, ONE);
-        built - salvage + mul_div_floor(inventory, self.worth - self.horizon.domestic, ONE)
+        let built = both_in_parts(domestic, self.worth, foreign, self.abroad);
+        built - salvage + both_in_parts(inventory, self.worth - self.horizon.domestic, 0, 0)
     }
 
     /// A configuration with its sums.

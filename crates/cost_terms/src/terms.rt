@@ -61,7 +61,7 @@ impl Ran {
 }
 
 /// Two amounts, each times a factor, in parts of `whole`: one floor for their sum.
-pub fn both_worth(domestic: u64, factor: u64, foreign: u64, factor_abroad: u64, whole: u64) -> u64
+fn both_worth(domestic: u64, factor: u64, foreign: u64, factor_abroad: u64, whole: u64) -> u64
     requires whole { 1 ≤ whole }
     requires fits { (domestic * factor + foreign * factor_abroad) / whole < 2 ^ 64 }
     requires room { domestic * factor + foreign * factor_abroad < 2 ^ 128 }

@@ -44,6 +44,9 @@ fn is_below(economy: &Economy, before: &Config, from: Option<u64>, to: &Arrival)
     let Some(value) = to.value else {
         return true;
     };
+    if value <= from + to.ran {
+        return true;
+    }
     let built = build_cost(economy, to.year, before, &to.entry.config);
     value <= from + built.net() + to.ran
 }

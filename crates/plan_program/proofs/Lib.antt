@@ -3,5 +3,6 @@ pub mod Forward
 mod Least
 pub mod OneSolution
 pub mod Orders
+pub mod SieveBits
 pub mod StartSteps
 pub mod Ways

@@ -46,6 +46,21 @@ walk_ends c year starts to n (Some cost) last each sorted w b h s = (
       (cases_lt i n),
 )
 
+-- the starts between two places change nothing where none is at most the configuration
+pub least_skips : (c : CostData) (year : ℕ) (starts : List Start) (config : List ℕ) (n m : ℕ) (least : Option ℕ) → n ≤ m → ((i : ℕ) → n ≤ i → i < m → IsAtMost (start_at starts i).standing.config config → ⊥) →
+    IsLeastFrom c year (map reached_of starts) n config least → IsLeastFrom c year (map reached_of starts) m config least
+least_skips c year starts config n m None b none h = λ i d g. ⊎_elim
+    (λ before. h i before g)
+    (λ behind. none i behind d (subst (λ (r : Reached). IsAtMost r.config config) (reached_start_at starts i) g))
+    (cases_lt i n)
+least_skips c year starts config n m (Some cost) b none h = (
+  record { place = h.0.place; within = omega (arith, h.0.within, b); grows = h.0.grows; costs = h.0.costs },
+  λ i d g. ⊎_elim
+      (λ before. h.1 i before g)
+      (λ behind. absurd (none i behind d (subst (λ (r : Reached). IsAtMost r.config config) (reached_start_at starts i) g)))
+      (cases_lt i n),
+)
+
 -- the starts of a list are those of what is reached
 pub listed_starts : (c : CostData) (year : ℕ) (rs : List Reached) (old new : List Start) → AreListed c year rs (length rs) old → IsPermutation old new → AreStarts c year rs new
 listed_starts c year rs old new h p =

@@ -1,14 +1,16 @@
 //! The costs-to-come, year by year.
 ghost use Rattle.std.specs.Prelude.{◌≡◌, ℕ, ◌+◌, ◌-◌, ◌*◌, ◌^◌, ◌<◌, ◌≤◌, ◌++◌, [], ◌∷◌, IfOk, IsTrue, OnOk, IfSome, All, IsPermutation, Option, length, map, slice_index_or, Some, None};
 ghost use Rattle.std.specs.List.Sorted.{IsNonDecreasingBy};
-ghost use Rattle.cost_terms.specs.CostData.{Fits};
+ghost use Rattle.cost_terms.specs.CostData.{Fits, greatest};
 ghost use Rattle.cost_terms.specs.StepTable.{IsStanding, IsStepTable};
 ghost use Rattle.cost_terms.specs.Table.{IsEntry, IsTable};
 ghost use Rattle.plan_program.specs.CostToCome.{come_at};
 ghost use Rattle.plan_program.specs.Plans.{entry_at};
+ghost use Rattle.plan_program.specs.Sieve.{IsSieve};
 ghost use Rattle.plan_program.specs.Starts.{AreListed, AreStarts, IsSettled, IsStart, reached_of};
 ghost use Rattle.plan_program.specs.Steps.{AreNumbered, AreWayCosts, IsLeastFrom, IsRaised, IsWithWay, reached_at};
 
+use crate::sieve::{Sieve, next, sieve_of};
 use crate::solved::CostToCome;
 use cost_terms::{CaseTable, Economy, Scored, Standing, StepTable, run_cost};
 use plant_data::{Config, Listed};
@@ -105,6 +107,20 @@ fn starts_of(
     Ok(starts)
 }
 
+/// The sieve of a year's starts.
+fn year_sieve(
+    alloc: Global,
+    economy: &Economy,
+    steps: &StepTable,
+    starts: &[Start],
+) -> Result<Sieve, AllocError>
+    requires table { IsStepTable economy.now steps.now }
+    requires starts { All (IsStart economy.now steps.now.year) starts.now }
+    ensures { IfOk result (λ sieve. IsSieve starts.now (length (greatest economy.now)) sieve) }
+{
+    sieve_of(alloc, starts, economy.nothing_built().width())
+}
+
 /// The least cost so far of coming to a configuration, with the way from one more that is reached.
 fn with_way(
     economy: &Economy,
@@ -147,21 +163,31 @@ fn is_settled(least: Option<u64>, from: &Start, to: &Standing) -> bool
 
 /// The least cost of coming to a configuration from those reached in the year before, without what it costs
 /// to run it.
-fn least_from(economy: &Economy, steps: &StepTable, starts: &[Start], to: &Standing) -> Option<u64>
+fn least_from(
+    economy: &Economy,
+    steps: &StepTable,
+    starts: &[Start],
+    sieve: &Sieve,
+    to: &Standing,
+) -> Option<u64>
     requires table { IsStepTable economy.now steps.now }
     requires limit { steps.now.year ≤ 30 }
     requires starts { All (IsStart economy.now steps.now.year) starts.now }
     requires sorted { IsNonDecreasingBy (λ s. s.potential) starts.now }
+    requires sieve { IsSieve starts.now (length (greatest economy.now)) sieve.now }
     requires to { IsStanding economy.now steps.now.year to.now }
     ensures least { IsLeastFrom economy.now steps.now.year (map reached_of starts.now) (length starts.now) to.now.config result }
     ensures small { IfSome result (λ cost. cost ≤ (steps.now.year - 1) * (2 * 10 ^ 16) + 10 ^ 16) }
 {
     let mut least = None;
-    for from in starts {
+    let mut place = next(sieve, starts, &to.config, 0);
+    while place < starts.len() {
+        let from = &starts[place];
         if is_settled(least, from, to) {
             return least;
         }
         least = with_way(economy, steps, from, to, least);
+        place = next(sieve, starts, &to.config, place + 1);
     }
     least
 }
@@ -171,6 +197,7 @@ fn cost_to_come(
     economy: &Economy,
     steps: &StepTable,
     starts: &[Start],
+    sieve: &Sieve,
     entry: &Scored,
 ) -> Option<u64>
     requires table { IsStepTable economy.now steps.now }
@@ -178,11 +205,12 @@ fn cost_to_come(
     requires entry { IsEntry economy.now entry.now }
     requires starts { All (IsStart economy.now steps.now.year) starts.now }
     requires sorted { IsNonDecreasingBy (λ s. s.potential) starts.now }
+    requires sieve { IsSieve starts.now (length (greatest economy.now)) sieve.now }
     ensures value { IsRaised economy.now steps.now.year (map reached_of starts.now) entry.now result }
     ensures small { IfSome result (λ cost. cost ≤ steps.now.year * (2 * 10 ^ 16)) }
 {
     let to = steps.standing(economy, &entry.config);
-    let least = least_from(economy, steps, starts, &to)?;
+    let least = least_from(economy, steps, starts, sieve, &to)?;
     let ran = run_cost(economy, steps.year, &entry.config, &entry.row);
     Some(least + ran.total())
 }
@@ -193,6 +221,7 @@ fn entry_costs(
     economy: &Economy,
     steps: &StepTable,
     starts: &[Start],
+    sieve: &Sieve,
     layer: &[Scored],
 ) -> Result<Vec<Option<u64>>, AllocError>
     requires table { IsStepTable economy.now steps.now }
@@ -200,13 +229,14 @@ fn entry_costs(
     requires entries { All (IsEntry economy.now) layer.now }
     requires starts { All (IsStart economy.now steps.now.year) starts.now }
     requires sorted { IsNonDecreasingBy (λ s. s.potential) starts.now }
+    requires sieve { IsSieve starts.now (length (greatest economy.now)) sieve.now }
     ensures entries { IfOk result (λ come. length come.items ≡ length layer.now) }
     ensures each { IfOk result (λ come. (i : ℕ) → i < length layer.now → IsRaised economy.now steps.now.year (map reached_of starts.now) (entry_at layer.now i) (slice_index_or come.items i None)) }
     ensures small { IfOk result (λ come. (i cost : ℕ) → slice_index_or come.items i None ≡ Some cost → cost ≤ steps.now.year * (2 * 10 ^ 16)) }
 {
     let mut come = Vec::with_capacity(alloc, layer.len())?;
     for entry in layer {
-        come.push(cost_to_come(economy, steps, starts, entry))?;
+        come.push(cost_to_come(economy, steps, starts, sieve, entry))?;
     }
     Ok(come)
 }
@@ -231,7 +261,8 @@ fn year_costs(
 {
     let steps = StepTable::new(alloc, economy, year)?;
     let starts = starts_of(alloc, economy, &steps, reached)?;
-    let come = entry_costs(alloc, economy, &steps, &starts, layer)?;
+    let sieve = year_sieve(alloc, economy, &steps, &starts)?;
+    let come = entry_costs(alloc, economy, &steps, &starts, &sieve, layer)?;
     Ok(come)
 }
 

@@ -9,11 +9,12 @@
 //!
 //! The definitions speak of whole plans as lists. Costs are in dollars of present worth at the beginning of
 //! year 1, below 10^18. For each entry the program walks over those of the year before in the order of their
-//! potentials, and stops where no later one can be cheaper.
+//! potentials, past those that a sieve of counts rules out, and stops where no later one can be cheaper.
 #![tactic(auto)]
 
 mod come;
 mod laws;
+mod sieve;
 mod solved;
 mod solving;
 mod trace;

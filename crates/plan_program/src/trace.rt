@@ -33,7 +33,7 @@ fn leads_to(
     let Some(before) = come else {
         return false;
     };
-    if !from.config.at_most(&entry.config) {
+    if before + ran > cost || !from.config.at_most(&entry.config) {
         return false;
     }
     let built = build_cost(economy, year, &from.config, &entry.config);

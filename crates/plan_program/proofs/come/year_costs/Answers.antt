@@ -11,6 +11,6 @@ returns-clause-each c = λ i b.
     let e = entry_at c.args.layer.now i in
     let come = get_or c.in_ok-come.come.items i None in
     let raised : IsRaised c.args.economy.now c.in_ok-steps.steps.year (map reached_of c.in_ok-starts.starts.items) e come =
-    subst (λ (ss : List Start). IsRaised c.args.economy.now c.in_ok-steps.steps.year (map reached_of ss) e come) c.deref.ensures.value (c.in_ok-come.ensures.each i b) in
+    subst (λ (ss : List Start). IsRaised c.args.economy.now c.in_ok-steps.steps.year (map reached_of ss) e come) c.deref-2.ensures.value (c.in_ok-come.ensures.each i b) in
     subst (λ y. IsRaised c.args.economy.now y c.args.reached.now e come) c.in_ok-steps.ensures.year
     (raised_same c.args.economy.now c.in_ok-steps.steps.year c.args.reached.now c.in_ok-starts.starts.items e come c.in_ok-starts.ensures.starts raised)
