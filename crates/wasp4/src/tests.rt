@@ -33,6 +33,39 @@ const SOUND: Edge = Edge {
     failing_puts: &[],
 };
 
+/// How a run of some words over some bytes ends, what it writes, and how many rows were filled.
+fn answer<E: SimEngine, R: Threads + Sync>(
+    rt: &R,
+    alloc: Global,
+    words: &CommandWords,
+    bytes: &[u8],
+    edge: &Edge,
+    engines: &mut [E],
+) -> Result<(Status, Vec<u8>, u64), Fail> {
+        let mut source = MemSource::new(alloc, bytes, edge.chunk.max(1), edge.failing_takes)?;
+    let mut sink = MemSink::new(alloc, edge.room, 8, edge.failing_puts)?;
+    let mut tally = Tally::new();
+    let status = run(
+        rt,
+        alloc,
+        words,
+        engines,
+        &mut source,
+        &mut sink,
+        &mut tally,
+    );
+    Ok((status, sink.bytes().to_vec(alloc)?, tally.filled()))
+}
+
+/// Words of a command line.
+fn words(alloc: Global, list: &[&str]) -> Result<CommandWords, Fail> {
+    let mut words = CommandWords::new(alloc);
+    for word in list {
+        words.push(word)?;
+    }
+    Ok(words)
+}
+
 /// How a script of `plan` ends and what it writes, given the deck and the lines behind it.
 fn plan<R: Threads + Sync>(
     rt: &R,
@@ -41,27 +74,10 @@ fn plan<R: Threads + Sync>(
     edge: &Edge,
 ) -> Result<(Status, Vec<u8>), Fail> {
     let script = format!(in alloc; "{DECK}{rest}")?;
-    let mut source = MemSource::new(
-        alloc,
-        script.as_bytes(),
-        edge.chunk.max(1),
-        edge.failing_takes,
-    )?;
-    let mut sink = MemSink::new(alloc, edge.room, 8, edge.failing_puts)?;
-    let mut words = CommandWords::new(alloc);
-    words.push("plan")?;
+    let words = words(alloc, &["plan"])?;
     let mut engines = [PlainEngine::new(alloc)];
-    let mut tally = Tally::new();
-    let status = run(
-        rt,
-        alloc,
-        &words,
-        &mut engines,
-        &mut source,
-        &mut sink,
-        &mut tally,
-    );
-    Ok((status, sink.bytes().to_vec(alloc)?))
+    let (status, text, _) = answer(rt, alloc, &words, script.as_bytes(), edge, &mut engines)?;
+    Ok((status, text))
 }
 
 /// The system of the year of the deck.
@@ -144,21 +160,9 @@ fn a_sink_without_room_is_a_write_fault(rt: HostRuntime) -> Result<(), Fail> {
 #[test]
 fn each_key_is_simulated_once(rt: HostRuntime) -> Result<(), Fail> {
     let script = format!(in rt.alloc(); "{DECK}PLAN\nPLAN\nTUNNEL 1 1 0 3\nPLAN\nEND\n")?;
-    let mut source = MemSource::new(rt.alloc(), script.as_bytes(), 64, &[])?;
-    let mut sink = MemSink::new(rt.alloc(), 4000, 64, &[])?;
-    let mut words = CommandWords::new(rt.alloc());
-    words.push("plan")?;
+    let words = words(rt.alloc(), &["plan"])?;
     let mut engines = [telling(rt.alloc())?];
-    let mut tally = Tally::new();
-    let status = run(
-        &rt,
-        rt.alloc(),
-        &words,
-        &mut engines,
-        &mut source,
-        &mut sink,
-        &mut tally,
-    );
+    let (status, _, _) = answer(&rt, rt.alloc(), &words, script.as_bytes(), &SOUND, &mut engines)?;
     assert_eq!(rt; status, Status::Done);
     let Some(runs) = engines[0].runs() else {
         return Err(Fail::new("no runs are told"));
@@ -191,56 +195,29 @@ fn told(engine: &TapeEngine) -> usize {
 /// Two of three engines are asked for: they simulate each key once between them, and the third does nothing.
 #[test]
 fn two_of_three_engines_work(rt: HostRuntime) -> Result<(), Fail> {
-    let script = format!(in rt.alloc(); "{DECK}PLAN\nEND\n")?;
-    let report = format!(in rt.alloc(); "PLAN 1\n{CASE}KEYS 3\n")?;
-    let mut source = MemSource::new(rt.alloc(), script.as_bytes(), 64, &[])?;
-    let mut sink = MemSink::new(rt.alloc(), 4000, 64, &[])?;
-    let mut words = CommandWords::new(rt.alloc());
-    words.push("plan")?;
-    words.push("--workers")?;
-    words.push("2")?;
-    let mut engines = [
-        telling(rt.alloc())?,
-        telling(rt.alloc())?,
-        telling(rt.alloc())?,
-    ];
-    let mut tally = Tally::new();
-    let status = run(
-        &rt,
-        rt.alloc(),
-        &words,
-        &mut engines,
-        &mut source,
-        &mut sink,
-        &mut tally,
-    );
+    let alloc = rt.alloc();
+    let script = format!(in alloc; "{DECK}PLAN\nEND\n")?;
+    let words = words(alloc, &["plan", "--workers", "2"])?;
+    let mut engines = [telling(alloc)?, telling(alloc)?, telling(alloc)?];
+    let (status, text, filled) = answer(&rt, rt.alloc(), &words, script.as_bytes(), &SOUND, &mut engines)?;
+    let report = format!(in alloc; "PLAN 1\n{CASE}KEYS 3\n")?;
     assert_eq!(rt; status, Status::Done);
-    assert_eq!(rt; sink.bytes(), report.as_bytes());
+    assert_eq!(rt; text.as_slice(), report.as_bytes());
     let both = told(&engines[0]).saturating_add(told(&engines[1]));
-    assert_eq!(rt; (both, told(&engines[2]), tally.filled()), (3, 0, 3));
+    assert_eq!(rt; (both, told(&engines[2]), filled), (3, 0, 3));
     Ok(())
 }
 
 #[test]
 fn other_words_get_the_usage_line(rt: HostRuntime) -> Result<(), Fail> {
     let usage =
-        b"USAGE plan [--workers N] | check | trial SEED YEARS CANDIDATES | search | best K | hours N\n".as_slice();
-    let mut source = MemSource::new(rt.alloc(), b"", 1, &[])?;
-    let mut sink = MemSink::new(rt.alloc(), 300, 8, &[])?;
+        b"USAGE plan [--workers N] | check | trial SEED YEARS CANDIDATES | search | best K | hours N\n"
+            .as_slice();
     let words = CommandWords::new(rt.alloc());
     let mut engines = [PlainEngine::new(rt.alloc())];
-    let mut tally = Tally::new();
-    let status = run(
-        &rt,
-        rt.alloc(),
-        &words,
-        &mut engines,
-        &mut source,
-        &mut sink,
-        &mut tally,
-    );
+    let (status, text, _) = answer(&rt, rt.alloc(), &words, b"", &SOUND, &mut engines)?;
     assert_eq!(rt; status, Status::BadWords);
-    assert_eq!(rt; sink.bytes(), usage);
+    assert_eq!(rt; text.as_slice(), usage);
     Ok(())
 }
 
@@ -275,23 +252,15 @@ fn hours<R: Threads + Sync>(
     alloc: Global,
     failing_takes: &[u64],
 ) -> Result<(Status, Vec<u8>), Fail> {
-    let mut source = MemSource::new(alloc, b"1\n3\nEND\n", 2, failing_takes)?;
-    let mut sink = MemSink::new(alloc, 100, 8, &[])?;
-    let mut words = CommandWords::new(alloc);
-    words.push("hours")?;
-    words.push("2")?;
+    let words = words(alloc, &["hours", "2"])?;
+    let edge = Edge {
+        chunk: 2,
+        failing_takes,
+        ..SOUND
+    };
     let mut engines = [PlainEngine::new(alloc)];
-    let mut tally = Tally::new();
-    let status = run(
-        rt,
-        alloc,
-        &words,
-        &mut engines,
-        &mut source,
-        &mut sink,
-        &mut tally,
-    );
-    Ok((status, sink.bytes().to_vec(alloc)?))
+    let (status, text, _) = answer(rt, alloc, &words, b"1\n3\nEND\n", &edge, &mut engines)?;
+    Ok((status, text))
 }
 
 #[test]
