@@ -26,6 +26,7 @@ mod report;
 mod searching;
 mod session;
 mod settling;
+mod solving;
 mod study;
 
 pub use command::{Command, Step};
