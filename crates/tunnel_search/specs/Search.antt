@@ -1,7 +1,7 @@
 -- Tunnels that move: by the marks of a chosen configuration each candidate's tunnel moves towards where the count
 -- stands at an edge. After the way in which planners move the tunnels of WASP-IV by the signs + and - of its report
 -- (IAEA Computer Manual Series No. 16); the rule for each mark is this program's own.
-use Rattle.std.specs.Prelude.{◌≡◌, ℕ, zero, suc, ◌+◌, ◌-◌, ◌×◌, All, Bool, true, false, List, length, map, slice_index}
+use Rattle.std.specs.Prelude.{◌≡◌, ℕ, zero, suc, ◌+◌, ◌-◌, All, Bool, true, false, List, length, map, slice_index}
 use Rattle.std.specs.List.{range_with_len}
 use Rattle.plant_data.specs.declared.row.Tunnel.{Tunnel}
 use Rattle.report_text.specs.Marks.{is_lower, is_upper, marks}
