@@ -15,14 +15,14 @@ use Rattle.sim_sweep.specs.Works.{HaveWorked}
 use Rattle.wasp_session.proofs.FollowSteps.{follows_line, follows_none}
 use Rattle.wasp_session.proofs.TellSteps.{told_more}
 use Rattle.wasp_session.specs.Checks.{Open, with_line}
-use Rattle.wasp_session.specs.Modes.{IsOfMode, check_mode, mode_of}
+use Rattle.wasp_session.specs.Modes.{HasPlans, IsOfMode, check_mode, mode_of}
 use Rattle.wasp_session.specs.State.{IsState, State, begun, open_count}
-use Rattle.wasp_session.specs.Steps.{DoesLine, HasPlaceFor, IsPlaced}
-use Rattle.wasp_session.specs.Tasks.{AreKeys, task_of}
+use Rattle.wasp_session.specs.Steps.{DoesLine, GainsFew, HasPlaceFor, IsPlaced}
+use Rattle.wasp_session.specs.Tasks.{AreKeys, most_keys, most_plans, task_of}
 use Rattle.wasp_session.specs.Told.{Told, joined, nothing, plain}
 use Rattle.wasp_session.specs.declared.command.Command.{Command}
 use Rattle.wasp_session.specs.declared.command.Command.TheVariants as commands
-use Rattle.wasp4.specs.Going.{Effort, HasBegun, HasRun, HasTaken, IsSpent, effort_by}
+use Rattle.wasp4.specs.Going.{Effort, HasBegun, HasRun, HasTaken, IsSpent, effort_by, most_rows}
 use Rattle.wasp4.specs.Out.{IsAnswered, closing}
 use Rattle.wasp4.specs.Script.{Malformed}
 
@@ -139,8 +139,11 @@ run_none command s works is = subst (λ (z : State). HasRun command [] z [] (rec
   spent = spent_none (record { works = works; tally = 0 });
 })
 
+none_taken : (c : Command) → 0 + most_rows c 0 ≤ most_rows c 0
+none_taken c = omega arith
+
 pub taken_none : (s : State) → HasBegun s → HasTaken s
-taken_none s is = subst HasTaken (sym is) (record { systems = omega arith; rows = omega arith })
+taken_none s is = subst HasTaken (sym is) (record { systems = omega arith; rows = none_taken s.command })
 
 -- ---- what a session's lines may take
 
@@ -156,15 +159,66 @@ check_some (Some o) e = refl
 none_open : (command : Command) (o : Option Open) → mode_of command o ≡ modes.Check → open_count o ≡ 0
 none_open commands.Plan o e = cc
 none_open commands.Check o e = ap open_count (check_none o e)
+none_open commands.Search o e = cc
+none_open (commands.Best k) o e = cc
 
 one_open : (command : Command) (o : Option Open) → mode_of command o ≡ modes.Certificate → (command ≡ commands.Check) × (open_count o ≡ 1)
 one_open commands.Plan o e = cc
 one_open commands.Check o e = (refl, check_some o e)
+one_open commands.Search o e = cc
+one_open (commands.Best k) o e = cc
 
-of_plan : (command : Command) (o : Option Open) → mode_of command o ≡ modes.Plan → command ≡ commands.Plan
-of_plan commands.Plan o e = refl
+of_plan : (command : Command) (o : Option Open) → mode_of command o ≡ modes.Plan → HasPlans command
+of_plan commands.Plan o e = tt
 of_plan commands.Check None e = cc
 of_plan commands.Check (Some o) e = cc
+of_plan commands.Search o e = tt
+of_plan (commands.Best k) o e = tt
+
+-- ---- rows of lines
+
+linear : (c : Command) (m n : ℕ) → most_rows c (m + n) ≡ most_rows c m + most_rows c n
+linear commands.Plan m n = omega arith
+linear commands.Check m n = omega arith
+linear commands.Search m n = omega arith
+linear (commands.Best k) m n = omega arith
+
+rows_of_one : (c : Command) → most_rows c 1 ≡ most_keys c
+rows_of_one commands.Plan = refl
+rows_of_one commands.Check = refl
+rows_of_one commands.Search = refl
+rows_of_one (commands.Best k) = refl
+
+-- behind a line of its own, and behind one that takes none
+rows_more : (c d : Command) (r s o p n m : ℕ) → d ≡ c → r + most_rows c o ≤ most_rows c n → s ≤ r + most_keys c → m + o ≡ (n + p) + 1 → s + most_rows d p ≤ most_rows d m
+rows_more c d r s o p n m e fits few same =
+    let all : most_rows c m + most_rows c o ≡ (most_rows c n + most_rows c p) + most_rows c 1 =
+    sym (linear c m o) ∙ ap (most_rows c) same ∙ linear c (n + p) 1 ∙ ap (λ (k : ℕ). k + most_rows c 1) (linear c n p) in
+    let one = rows_of_one c in
+    subst (λ (k : Command). s + most_rows k p ≤ most_rows k m) (sym e) (omega (arith, fits, few, all, one))
+
+rows_still : (c d : Command) (r s o p n m : ℕ) → d ≡ c → r + most_rows c o ≤ most_rows c n → s ≡ r → m + o ≡ n + p → s + most_rows d p ≤ most_rows d m
+rows_still c d r s o p n m e fits few same =
+    let all : most_rows c m + most_rows c o ≡ most_rows c n + most_rows c p = sym (linear c m o) ∙ ap (most_rows c) same ∙ linear c n p in
+    subst (λ (k : Command). s + most_rows k p ≤ most_rows k m) (sym e) (omega (arith, fits, few, all))
+
+-- those of a line more have places
+few_plans : (c : Command) → most_plans c ≤ 64
+few_plans commands.Plan = omega arith
+few_plans commands.Check = omega arith
+few_plans commands.Search = omega arith
+few_plans (commands.Best k) = omega arith
+
+rows_placed : (c : Command) (r o n : ℕ) → n < most_plans c → r + most_rows c o ≤ most_rows c n → r + most_keys c < 2 ^ 23
+rows_placed commands.Plan r o n few fits = omega (arith, few, fits)
+rows_placed commands.Check r o n few fits = omega (arith, few, fits)
+rows_placed commands.Search r o n few fits = omega (arith, few, fits)
+rows_placed (commands.Best k) r o n few fits = omega (arith, few, fits)
+
+rows_checked : (c : Command) (r o n : ℕ) → c ≡ commands.Check → o ≡ 1 → n ≤ 64 → r + most_rows c o ≤ most_rows c n → r + 120000 < 2 ^ 23
+rows_checked c r o n e one few fits =
+    let here : r + 120000 * o ≤ 120000 * n = subst (λ (k : Command). r + most_rows k o ≤ most_rows k n) e fits in
+    omega (arith, one, few, here)
 
 same_count : (o : Option Open) (l : CertLine) → open_count (with_line o l) ≡ open_count o
 same_count None l = refl
@@ -178,7 +232,8 @@ quiet line s t work es fs text more does same count taken =
     let rows = ap (λ (x : ShelfIs). length x.kept) same in
     record {
       systems = omega (arith, book, count, taken.systems);
-      rows = omega (arith, rows, count, taken.rows);
+      rows = rows_still s.command t.command (length s.memory.shelf.kept) (length t.memory.shelf.kept) (open_count s.opened) (open_count t.opened) (s.plans + s.checks) (t.plans + t.checks)
+          (ap (λ (z : State). z.command) does.state) taken.rows rows (omega (arith, count));
     }
 
 -- the same, where neither counts nor the open CHECK move
@@ -187,61 +242,66 @@ still : {X Z : Type 0} (line : Line) (s t : State) (work : X → Work) (es fs : 
 still line s t work es fs text more does same plans checks opened taken =
     quiet line s t work es fs text more does same (omega (arith, plans, checks, opened)) taken
 
-pub taken_more : {X Z : Type 0} (line : Line) (s t : State) (work : X → Work) (es fs : List X) (text more : Vec ℕ Z) → IsOfMode (mode_of s.command s.opened) line → HasTaken s → DoesLine line s t work es fs text more → HasTaken t
-taken_more lines.Plan s t work es fs text more mode taken does =
-    let l = does.tells.learns in
+pub taken_more : {X Z : Type 0} (line : Line) (s t : State) (work : X → Work) (es fs : List X) (text more : Vec ℕ Z) → IsOfMode (mode_of s.command s.opened) line → HasTaken s → DoesLine line s t work es fs text more
+    → GainsFew (most_keys s.command) s.memory t.memory → HasTaken t
+taken_more lines.Plan s t work es fs text more mode taken does few =
     let plans = ap (λ (z : State). z.plans) does.state in
     let checks = ap (λ (z : State). z.checks) does.state in
     let opened = ap (λ (z : State). open_count z.opened) does.state in
-    let many = l.adds.many in
     record {
-      systems = omega (arith, l.few_systems, plans, checks, opened, taken.systems);
-      rows = omega (arith, many, l.few, plans, checks, opened, taken.rows);
+      systems = omega (arith, few.systems, plans, checks, opened, taken.systems);
+      rows = rows_more s.command t.command (length s.memory.shelf.kept) (length t.memory.shelf.kept) (open_count s.opened) (open_count t.opened) (s.plans + s.checks) (t.plans + t.checks)
+          (ap (λ (z : State). z.command) does.state) taken.rows few.rows (omega (arith, plans, checks, opened));
     }
-taken_more lines.EndCheck s t work es fs text more mode taken does =
-    let l = does.tells.learns in
+taken_more lines.EndCheck s t work es fs text more mode taken does few =
     let plans = ap (λ (z : State). z.plans) does.state in
     let checks = ap (λ (z : State). z.checks) does.state in
     let opened = ap (λ (z : State). open_count z.opened) does.state in
     let one = (one_open s.command s.opened mode).1 in
-    let many = l.adds.many in
     record {
-      systems = omega (arith, l.few_systems, plans, checks, opened, one, taken.systems);
-      rows = omega (arith, many, l.few, plans, checks, opened, one, taken.rows);
+      systems = omega (arith, few.systems, plans, checks, opened, one, taken.systems);
+      rows = rows_more s.command t.command (length s.memory.shelf.kept) (length t.memory.shelf.kept) (open_count s.opened) (open_count t.opened) (s.plans + s.checks) (t.plans + t.checks)
+          (ap (λ (z : State). z.command) does.state) taken.rows few.rows (omega (arith, plans, checks, opened, one));
     }
-taken_more (lines.Check c) s t work es fs text more mode taken does =
+taken_more (lines.Check c) s t work es fs text more mode taken does few =
     let plans = ap (λ (z : State). z.plans) does.state in
     let checks = ap (λ (z : State). z.checks) does.state in
     let opened = ap (λ (z : State). open_count z.opened) does.state in
     let none = none_open s.command s.opened mode in
     quiet (lines.Check c) s t work es fs text more does (does.tells.learns.gains.still (λ no. no)) (omega (arith, plans, checks, opened, none)) taken
-taken_more (lines.Cert l) s t work es fs text more mode taken does =
+taken_more (lines.Cert l) s t work es fs text more mode taken does few =
     still (lines.Cert l) s t work es fs text more does (does.tells.learns.gains.still (λ no. no)) (ap (λ (z : State). z.plans) does.state) (ap (λ (z : State). z.checks) does.state)
     (ap (λ (z : State). open_count z.opened) does.state ∙ same_count s.opened l) taken
-taken_more lines.Blank s t work es fs text more mode taken does =
+taken_more lines.Blank s t work es fs text more mode taken does few =
     still lines.Blank s t work es fs text more does (does.tells.learns.gains.still (λ no. no)) (ap (λ (z : State). z.plans) does.state) (ap (λ (z : State). z.checks) does.state) (ap (λ (z : State). open_count z.opened) does.state) taken
-taken_more (lines.Set x) s t work es fs text more mode taken does =
+taken_more (lines.Set x) s t work es fs text more mode taken does few =
     still (lines.Set x) s t work es fs text more does (does.tells.learns.gains.still (λ no. no)) (ap (λ (z : State). z.plans) does.state) (ap (λ (z : State). z.checks) does.state) (ap (λ (z : State). open_count z.opened) does.state) taken
-taken_more (lines.Drop h) s t work es fs text more mode taken does =
+taken_more (lines.Drop h) s t work es fs text more mode taken does few =
     still (lines.Drop h) s t work es fs text more does (does.tells.learns.gains.still (λ no. no)) (ap (λ (z : State). z.plans) does.state) (ap (λ (z : State). z.checks) does.state) (ap (λ (z : State). open_count z.opened) does.state) taken
-taken_more lines.Skip s t work es fs text more mode taken does =
+taken_more lines.Skip s t work es fs text more mode taken does few =
     still lines.Skip s t work es fs text more does (does.tells.learns.gains.still (λ no. no)) (ap (λ (z : State). z.plans) does.state) (ap (λ (z : State). z.checks) does.state) (ap (λ (z : State). open_count z.opened) does.state) taken
-taken_more lines.End s t work es fs text more mode taken does =
+taken_more lines.End s t work es fs text more mode taken does few =
     still lines.End s t work es fs text more does (does.tells.learns.gains.still (λ no. no)) (ap (λ (z : State). z.plans) does.state) (ap (λ (z : State). z.checks) does.state) (ap (λ (z : State). open_count z.opened) does.state) taken
 
 -- each line has its places
-pub placed : (line : Line) (s : State) → IsState s → HasTaken s → IsOfMode (mode_of s.command s.opened) line → (line ≡ lines.Plan → s.plans < 64) → ((c : ℕ) → line ≡ lines.Check c → s.checks < 64) → IsPlaced line s
+pub placed : (line : Line) (s : State) → IsState s → HasTaken s → IsOfMode (mode_of s.command s.opened) line → (line ≡ lines.Plan → s.plans < most_plans s.command) → ((c : ℕ) → line ≡ lines.Check c → s.checks < 64) → IsPlaced line s
 placed lines.Plan s is taken mode plans checks =
     let few = plans refl in
     let none = (is.plan (of_plan s.command s.opened mode)).0 in (
       few,
-      record { systems = omega (arith, few, none, taken.systems); rows = omega (arith, few, none, taken.rows) },
+      record {
+        systems = omega (arith, few, few_plans s.command, none, taken.systems);
+        rows = rows_placed s.command (length s.memory.shelf.kept) (open_count s.opened) (s.plans + s.checks) (omega (arith, few, none)) taken.rows;
+      },
     )
 placed lines.EndCheck s is taken mode plans checks =
     let one = one_open s.command s.opened mode in
     let none = is.check one.0 in
     let few = is.few_checks in
-    record { systems = omega (arith, few, none, one.1, taken.systems); rows = omega (arith, few, none, one.1, taken.rows) }
+    record {
+      systems = omega (arith, few, none, one.1, taken.systems);
+      rows = rows_checked s.command (length s.memory.shelf.kept) (open_count s.opened) (s.plans + s.checks) one.0 one.1 (omega (arith, few, none)) taken.rows;
+    }
 placed (lines.Check c) s is taken mode plans checks = checks c refl
 placed (lines.Cert l) s is taken mode plans checks = tt
 placed lines.Blank s is taken mode plans checks = tt

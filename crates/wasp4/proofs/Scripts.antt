@@ -11,9 +11,7 @@ use Rattle.deck_lines.specs.declared.fault.LineFault.{LineFault}
 use Rattle.deck_lines.specs.declared.fault.LineKind.TheVariants as kinds
 use Rattle.deck_lines.specs.declared.line.Line.{Line}
 use Rattle.deck_lines.specs.declared.line.Line.TheVariants as lines
-use Rattle.deck_lines.specs.declared.line.Mode.{Mode}
-use Rattle.wasp_session.specs.Checks.{check_count, open_at}
-use Rattle.wasp_session.specs.Modes.{mode_of}
+use Rattle.wasp_session.specs.Checks.{Open, check_count, open_at}
 use Rattle.wasp_session.specs.Tasks.{plan_count, task_of}
 use Rattle.wasp_session.specs.State.{State}
 use Rattle.wasp_session.specs.declared.command.Command.{Command}
@@ -32,19 +30,21 @@ line_more command read bytes more = refl
 
 -- what the bytes of a line are to a session
 abbrev pub stated_to : State → List ℕ → Result Line LineFault
-stated_to s bytes = stated (mode_of s.command s.opened) s.plans s.checks bytes
+stated_to s bytes = stated s.command s.opened s.plans s.checks bytes
 
 -- the command of a task
 of_task : (command other : Command) → other ≡ (task_of command).command → other ≡ command
 of_task commands.Plan other e = e
 of_task commands.Check other e = e
+of_task commands.Search other e = e
+of_task (commands.Best k) other e = e
 
 -- within the number of lines a line is what its bytes state
 within : (command : Command) (read : List Line) (s : State) (said : List ℕ) (w v : Effort) (bytes : List ℕ) → length read < 100000 → HasRun command read s said w v → line_behind command read bytes ≡ stated_to s bytes
 within command read s said w v bytes few r =
-    ap (λ (b : Bool). if b then stated (mode_of command (open_at read)) (plan_count read) (check_count read) bytes else Err (fault kinds.ManyLines 1)) (lt-ltb (length read) 100000 few)
-    ∙ ap (λ (c : Command). stated (mode_of c (open_at read)) (plan_count read) (check_count read) bytes) (sym (of_task command s.command r.follows.command))
-    ∙ (λ i. stated (mode_of s.command (sym r.follows.opened i)) (sym r.follows.plans i) (sym r.follows.checks i) bytes)
+    ap (λ (b : Bool). if b then stated command (open_at read) (plan_count read) (check_count read) bytes else Err (fault kinds.ManyLines 1)) (lt-ltb (length read) 100000 few)
+    ∙ ap (λ (c : Command). stated c (open_at read) (plan_count read) (check_count read) bytes) (sym (of_task command s.command r.follows.command))
+    ∙ (λ i. stated s.command (sym r.follows.opened i) (sym r.follows.plans i) (sym r.follows.checks i) bytes)
 
 -- what comes of it
 line_here : (command : Command) (read : List Line) (s : State) (said : List ℕ) (w v : Effort) (bytes : List ℕ) (result : Result Line LineFault) → length read < 100000 → HasRun command read s said w v → stated_to s bytes ≡ result
@@ -77,9 +77,9 @@ goes_on command read s said w v bytes line few r is ne more =
     line_here command read s said w v bytes (Ok line) few r is more ∙ then_goes read line (λ ls. script_behind command ls more) ne
 
 -- a line of more than 4,096 bytes
-long_is : (mode : Mode) (plans checks : ℕ) (bytes : List ℕ) → 4096 < length bytes → stated mode plans checks bytes ≡ Err (fault kinds.Long 4097)
+long_is : (command : Command) (opened : Option Open) (plans checks : ℕ) (bytes : List ℕ) → 4096 < length bytes → stated command opened plans checks bytes ≡ Err (fault kinds.Long 4097)
 unfolding line_of
-long_is mode plans checks bytes long = rw (lt-ltb 4096 (length bytes) long) refl
+long_is command opened plans checks bytes long = rw (lt-ltb 4096 (length bytes) long) refl
 
 pub long_here : (command : Command) (read : List Line) (s : State) (said : List ℕ) (w v : Effort) (line : List ℕ) (text : Option (List ℕ)) → length read < 100000 → HasRun command read s said w v → 4096 < length line
     → IfSome text (λ t. LineBegins t line) → IfSome text (λ t. script_behind command read (lines_of t) ≡ stops read (fault kinds.Long 4097))
@@ -87,7 +87,7 @@ long_here command read s said w v line None few r long begins = tt
 long_here command read s said w v line (Some t) few r long begins =
     ap (script_behind command read) begins.2
     ∙ faulty_here command read s said w v (line ++ begins.0) (fault kinds.Long 4097) few r
-    (long_is (mode_of s.command s.opened) s.plans s.checks (line ++ begins.0) (omega (arith, long, length-append line begins.0))) begins.1
+    (long_is s.command s.opened s.plans s.checks (line ++ begins.0) (omega (arith, long, length-append line begins.0))) begins.1
 
 not_below : (n : ℕ) → 100000 ≡ n → nat_lt n 100000 ≡ false
 not_below n e = le-ltb n 100000 (omega (arith, e))
@@ -96,7 +96,7 @@ not_below n e = le-ltb n 100000 (omega (arith, e))
 pub too_many : (command : Command) (read : List Line) (bytes : List ℕ) (more : List (List ℕ)) → 100000 ≡ length read → script_behind command read (bytes ∷ more) ≡ stops read (fault kinds.ManyLines 1)
 too_many command read bytes more e =
     line_more command read bytes more
-    ∙ ap (λ (b : Bool). line_then read (λ ls. script_behind command ls more) (if b then stated (mode_of command (open_at read)) (plan_count read) (check_count read) bytes else Err (fault kinds.ManyLines 1)))
+    ∙ ap (λ (b : Bool). line_then read (λ ls. script_behind command ls more) (if b then stated command (open_at read) (plan_count read) (check_count read) bytes else Err (fault kinds.ManyLines 1)))
     (not_below (length read) e)
 
 abbrev Keeping : List Line → Script → Type 0

@@ -9,6 +9,7 @@ use Rattle.wasp_session.specs.State.{State, begun, open_count}
 use Rattle.wasp_session.specs.Tasks.{AreTold, task_of}
 use Rattle.wasp_session.specs.Told.{Told}
 use Rattle.wasp_session.specs.declared.command.Command.{Command}
+use Rattle.wasp_session.specs.declared.command.Command.TheVariants as commands
 
 -- ---- what engines have done, and how many rows were counted
 
@@ -27,10 +28,18 @@ pub record IsSpent (keys : List Run) (years : ℕ) (before now : Effort) : Type 
 
 -- ---- a session behind lines
 
--- each PLAN and each CHECK so far has taken in at most 30 systems and 120,000 rows; an open CHECK none
+-- the most rows of so many lines
+abbrev pub most_rows : Command → ℕ → ℕ
+most_rows commands.Plan n = 120000 * n
+most_rows commands.Check n = 120000 * n
+most_rows commands.Search n = 2400000 * n
+most_rows (commands.Best k) n = 120000 * n
+
+-- each PLAN and each CHECK so far has taken in at most 30 systems and so many rows; an open CHECK none
 pub record HasTaken (s : State) : Type 0 where
   pub systems : length s.memory.shelf.book + 30 * open_count s.opened ≤ 30 * (s.plans + s.checks)
-  pub rows : length s.memory.shelf.kept + 120000 * open_count s.opened ≤ 120000 * (s.plans + s.checks)
+  pub rows : length s.memory.shelf.kept + most_rows s.command (open_count s.opened)
+      ≤ most_rows s.command (s.plans + s.checks)
 
 -- none yet
 abbrev pub HasBegun : State → Type 0

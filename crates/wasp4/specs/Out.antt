@@ -1,11 +1,12 @@
 -- The text that a script is answered with, and the words of the command line. This program's own.
-use Rattle.std.specs.Prelude.{◌≡◌, ◌==◌, ◌&&◌, ℕ, ◌⊎◌, List, [], ◌∷◌, ◌++◌, length, Option, None, Some, codes, nat_le, if◌then◌else◌}
+use Rattle.std.specs.Prelude.{◌≡◌, ◌≤◌, ◌==◌, ◌&&◌, ℕ, ◌⊎◌, List, [], ◌∷◌, ◌++◌, length, Option, None, Some, codes, nat_le, if◌then◌else◌}
 use Rattle.std.specs.Str.{bytes_eq}
 use Rattle.deck_lines.specs.Words.{number_of}
 use Rattle.deck_lines.specs.declared.line.Line.{Line}
 use Rattle.report_text.specs.Lines.{keys_line}
 use Rattle.report_text.specs.Refusals.{malformed_line}
 use Rattle.sim_engine.specs.Engine.{Run}
+use Rattle.wasp_session.specs.Modes.{IsCommand}
 use Rattle.wasp_session.specs.Tasks.{AreKeys, AreTold, task_of}
 use Rattle.wasp_session.specs.Told.{Told}
 use Rattle.wasp_session.specs.declared.command.Command.{Command}
@@ -13,7 +14,7 @@ use Rattle.wasp_session.specs.declared.command.Command.TheVariants as commands
 use Rattle.wasp4.specs.Going.{Effort, IsSpent}
 use Rattle.wasp4.specs.Script.{Malformed, Script}
 use Rattle.wasp4.specs.declared.asked.Asked.{Asked}
-use Rattle.wasp4.specs.declared.asked.Asked.TheVariants.{Plan, Check}
+use Rattle.wasp4.specs.declared.asked.Asked.TheVariants.{Best, Check, Plan, Search}
 
 -- the closing: the malformed line, where there is one, and the number of keys
 abbrev pub closing : Option Malformed → ℕ → List ℕ
@@ -60,10 +61,20 @@ abbrev pub workers_within : Option ℕ → Option Asked
 workers_within None = None
 workers_within (Some n) = if nat_le 1 n && nat_le n 64 then Some (Plan n) else None
 
--- what one word asks for, and three: `plan --workers N`
+-- the number of plans that a word asks for, from 1 to 10
+abbrev pub plans_within : Option ℕ → Option Asked
+plans_within None = None
+plans_within (Some n) = if nat_le 1 n && nat_le n 10 then Some (Best n) else None
+
+-- what one word asks for, and two: `best K`, and three: `plan --workers N`
 abbrev pub asked_alone : List ℕ → Option Asked
 asked_alone word =
-    if bytes_eq word (codes "plan") then Some (Plan 1) else if bytes_eq word (codes "check") then Some Check else None
+    if bytes_eq word (codes "plan") then Some (Plan 1)
+    else if bytes_eq word (codes "check") then Some Check
+    else if bytes_eq word (codes "search") then Some Search else None
+
+abbrev pub asked_of_two : List ℕ → List ℕ → Option Asked
+asked_of_two word number = if bytes_eq word (codes "best") then plans_within (number_of number) else None
 
 abbrev pub asked_of_three : List ℕ → List ℕ → List ℕ → Option Asked
 asked_of_three word option number =
@@ -73,7 +84,7 @@ asked_of_three word option number =
 abbrev pub asked_by : List (List ℕ) → Option Asked
 asked_by [] = None
 asked_by (word ∷ []) = asked_alone word
-asked_by (word ∷ option ∷ []) = None
+asked_by (word ∷ number ∷ []) = asked_of_two word number
 asked_by (word ∷ option ∷ number ∷ []) = asked_of_three word option number
 asked_by (word ∷ option ∷ number ∷ other ∷ words) = None
 
@@ -81,10 +92,20 @@ asked_by (word ∷ option ∷ number ∷ other ∷ words) = None
 abbrev pub command_of : Asked → Command
 command_of (Plan n) = commands.Plan
 command_of Check = commands.Check
+command_of Search = commands.Search
+command_of (Best k) = commands.Best k
 
 abbrev pub used : Asked → ℕ
 used (Plan n) = n
 used Check = 1
+used Search = 1
+used (Best k) = 1
+
+-- from 1 to 64 engines, and a command in its range
+pub record IsAsked (asked : Asked) : Type 0 where
+  pub some : 1 ≤ used asked
+  pub most : used asked ≤ 64
+  pub command : IsCommand (command_of asked)
 
 -- the same where there are as many engines
 abbrev pub with_engines : ℕ → Option Asked → Option Asked
@@ -110,4 +131,4 @@ hours_points (word ∷ number ∷ []) = points_behind word number
 hours_points (word ∷ number ∷ other ∷ words) = None
 
 abbrev pub usage_text : List ℕ
-usage_text = codes "USAGE plan [--workers N] | check | trial SEED YEARS CANDIDATES | hours N\n"
+usage_text = codes "USAGE plan [--workers N] | check | trial SEED YEARS CANDIDATES | search | best K | hours N\n"

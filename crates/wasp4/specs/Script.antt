@@ -8,10 +8,9 @@ use Rattle.deck_lines.specs.declared.fault.LineFault.{LineFault}
 use Rattle.deck_lines.specs.declared.fault.LineKind.TheVariants as kinds
 use Rattle.deck_lines.specs.declared.line.Line.{Line}
 use Rattle.deck_lines.specs.declared.line.Line.TheVariants as lines
-use Rattle.deck_lines.specs.declared.line.Mode.{Mode}
-use Rattle.wasp_session.specs.Checks.{check_count, open_at}
+use Rattle.wasp_session.specs.Checks.{Open, check_count, open_at}
 use Rattle.wasp_session.specs.Modes.{mode_of}
-use Rattle.wasp_session.specs.Tasks.{plan_count}
+use Rattle.wasp_session.specs.Tasks.{most_plans, plan_count}
 use Rattle.wasp_session.specs.declared.command.Command.{Command}
 
 -- the first line with a fault, by its number from 1
@@ -26,24 +25,25 @@ pub record Script : Type 0 where
 
 -- ---- one line
 
--- a 65th PLAN line is a fault, and a 65th CHECK line
-abbrev pub at_most_64 : ℕ → Line → Result Line LineFault
-at_most_64 earlier line = if nat_lt earlier 64 then Ok line else Err (fault kinds.Many 1)
+-- a PLAN line more than the command allows is a fault, and a 65th CHECK line
+abbrev pub at_most : ℕ → ℕ → Line → Result Line LineFault
+at_most most earlier line = if nat_lt earlier most then Ok line else Err (fault kinds.Many 1)
 
-abbrev pub within_counts : ℕ → ℕ → Line → Result Line LineFault
-within_counts plans checks lines.Plan = at_most_64 plans lines.Plan
-within_counts plans checks (lines.Check c) = at_most_64 checks (lines.Check c)
-within_counts plans checks line = Ok line
+abbrev pub within_counts : Command → ℕ → ℕ → Line → Result Line LineFault
+within_counts command plans checks lines.Plan = at_most (most_plans command) plans lines.Plan
+within_counts command plans checks (lines.Check c) = at_most 64 checks (lines.Check c)
+within_counts command plans checks line = Ok line
 
--- what the bytes of a line are in a mode, behind so many PLAN and CHECK lines
-abbrev pub stated : Mode → ℕ → ℕ → List ℕ → Result Line LineFault
-stated mode plans checks bytes = line_of mode bytes >>= within_counts plans checks
+-- what the bytes of a line are to a command, with the CHECK that is open, behind so many PLAN and CHECK lines
+abbrev pub stated : Command → Option Open → ℕ → ℕ → List ℕ → Result Line LineFault
+stated command opened plans checks bytes =
+    line_of (mode_of command opened) bytes >>= within_counts command plans checks
 
 -- behind other lines: there are at most 100,000
 abbrev pub line_behind : Command → List Line → List ℕ → Result Line LineFault
 line_behind command before bytes =
     if nat_lt (length before) 100000
-    then stated (mode_of command (open_at before)) (plan_count before) (check_count before) bytes
+    then stated command (open_at before) (plan_count before) (check_count before) bytes
     else Err (fault kinds.ManyLines 1)
 
 -- ---- all lines

@@ -11,6 +11,10 @@ pub enum Asked {
     Plan(usize),
     /// To check certificates, by the first engine.
     Check,
+    /// To search tunnels, by the first engine.
+    Search,
+    /// To rank the first so many plans, by the first engine.
+    Best(u64),
 }
 
 impl Asked {
@@ -21,6 +25,8 @@ impl Asked {
         match self {
             Asked::Plan(_) => Command::Plan,
             Asked::Check => Command::Check,
+            Asked::Search => Command::Search,
+            Asked::Best(plans) => Command::Best(plans),
         }
     }
 
@@ -30,7 +36,7 @@ impl Asked {
     {
         match self {
             Asked::Plan(engines) => engines,
-            Asked::Check => 1,
+            Asked::Check | Asked::Search | Asked::Best(_) => 1,
         }
     }
 }

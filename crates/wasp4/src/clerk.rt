@@ -3,6 +3,7 @@ ghost use Rattle.std.specs.Prelude.{◌≡◌, ◌+◌, ◌≤◌, [], List, ℕ
 ghost use Rattle.wasp_io.specs.Causes.{HasCause};
 ghost use Rattle.line_reader.specs.Reading.{ahead};
 ghost use Rattle.deck_lines.specs.declared.line.Line.{Line as Stated};
+ghost use Rattle.wasp_session.specs.Modes.{IsCommand};
 ghost use Rattle.wasp_session.specs.State.{begun};
 ghost use Rattle.wasp_session.specs.declared.command.Command.{Command as Asked};
 ghost use Rattle.wasp4.specs.Progress.{PutAs, Serves};
@@ -53,6 +54,7 @@ pub(crate) struct Clerk {
 impl Clerk {
     /// Before the first line. It takes no memory.
     pub(crate) fn start(alloc: Global, command: Command) -> Self
+        requires { IsCommand command }
         ensures reader { result.reader ≡ [] }
         ensures session { result.session ≡ begun command [] }
     {

@@ -224,7 +224,7 @@ fn two_of_three_engines_work(rt: HostRuntime) -> Result<(), Fail> {
 #[test]
 fn other_words_get_the_usage_line(rt: HostRuntime) -> Result<(), Fail> {
     let usage =
-        b"USAGE plan [--workers N] | check | trial SEED YEARS CANDIDATES | hours N\n".as_slice();
+        b"USAGE plan [--workers N] | check | trial SEED YEARS CANDIDATES | search | best K | hours N\n".as_slice();
     let mut source = MemSource::new(rt.alloc(), b"", 1, &[])?;
     let mut sink = MemSink::new(rt.alloc(), 300, 8, &[])?;
     let words = CommandWords::new(rt.alloc());

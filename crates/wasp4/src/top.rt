@@ -1,6 +1,7 @@
 //! The top call.
 ghost use Rattle.std.specs.Prelude.{◌≡◌, ◌≢◌, ◌↔◌, ◌≤◌, ℕ, [], IfOk, IsTrue, None, Ok, OnErr, Some, drop, false, length};
 ghost use Rattle.wasp_io.specs.Causes.{HasCause};
+ghost use Rattle.wasp_session.specs.Modes.{IsCommand};
 ghost use Rattle.wasp4.specs.Going.{HasBegun, effort_by};
 ghost use Rattle.wasp4.specs.Hours.{AnswersHours, HasRoomForHours};
 ghost use Rattle.wasp4.specs.Out as spec;
@@ -65,6 +66,7 @@ fn answer_script<E: SimEngine, R: Threads + Sync, S: Source, K: Sink>(
 ) -> Status
     requires some { 1 ≤ length engines.old }
     requires most { length engines.old ≤ 64 }
+    requires command { IsCommand command }
     requires source { S.ended source.old ≡ false }
     requires sink { K.failed sink.old ≡ false }
     ensures answer { Answers command (S.left source.old) (S.left source.new) (K.written sink.old) (K.written sink.new)
@@ -144,12 +146,12 @@ fn run_script<E: SimEngine, R: Threads + Sync, S: Source, K: Sink>(
 /// Plans by a script, checks the certificates in one, or makes a shape of hourly loads: reads the lines from the
 /// source and writes the text that they define to the sink.
 ///
-/// For a script the words are `plan`, `plan --workers N` with N from 1 to 64, or `check`, and the first N engines
-/// work, or the first alone; the text does not depend on N. Neither the source nor the sink has failed or ended
+/// For a script the words are `plan`, `plan --workers N` with N from 1 to 64, `check`, `search`, or `best K` with K from 1
+/// to 10, and the first N engines work, or the first alone; the text does not depend on N. Neither the source nor the sink has failed or ended
 /// before. With accepted words, bytes told and no rise of either count of faults the status is `Done`, `CheckNo` or
 /// `Malformed` (or `OutOfMemory`), and the sink has gained exactly the text defined from the bytes that the source
-/// had left: for each PLAN line its report or its refusal, or for each CHECK at its ENDCHECK what is said of its
-/// certificate, on the deck as edited so far, and the closing. `CheckNo` comes exactly where the script was read to
+/// had left: for each PLAN line its report or its refusal, the rounds of its search or its best plans, or for each CHECK
+/// at its ENDCHECK what is said of its certificate, on the deck as edited so far, and the closing. `CheckNo` comes exactly where the script was read to
 /// its END and a check said NO. The engines have then simulated each key that the lines demand once, by one of them,
 /// and nothing else, the first has detailed the chosen years, and the tally rose by the number of the keys, which is
 /// printed; counts rise run by run, and one that is at the last value of a `u64` stays there. After `ReadFault` the

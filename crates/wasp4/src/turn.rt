@@ -10,6 +10,7 @@ ghost use Rattle.deck_lines.specs.declared.line.Line.TheVariants as lines;
 ghost use Rattle.report_text.specs.Lines.{keys_line};
 ghost use Rattle.report_text.specs.Refusals.{malformed_line};
 ghost use Rattle.wasp_session.specs.Modes.{IsOfMode, mode_of};
+ghost use Rattle.wasp_session.specs.Tasks.{most_plans};
 ghost use Rattle.wasp_session.specs.declared.command.Command.{Command};
 ghost use Rattle.wasp4.specs.Progress.{AnswersLine, TurnFrom};
 ghost use Rattle.wasp4.specs.Script.{stated, within_counts};
@@ -28,9 +29,6 @@ use wasp_session::{Session, Step};
 
 /// The most lines of a script.
 pub(crate) const MOST_LINES: u64 = 100_000;
-
-/// The most PLAN lines of a script.
-const MOST_PLANS: u64 = 64;
 
 /// The most CHECK lines of a script.
 const MOST_CHECKS: u64 = 64;
@@ -51,11 +49,11 @@ pub(crate) fn refuse(
 
 /// Whether the line is one PLAN or CHECK more than a script may have.
 fn is_past(session: &Session, line: &Line) -> bool
-    ensures { within_counts session.now.plans session.now.checks line.now
+    ensures { within_counts session.now.command session.now.plans session.now.checks line.now
         ≡ (if result then Err (fault kinds.Many 1) else Ok line.now) }
 {
     match line {
-        Line::Plan => MOST_PLANS <= session.plans(),
+        Line::Plan => session.most_plans() <= session.plans(),
         Line::Check(_) => MOST_CHECKS <= session.checks(),
         _ => false,
     }
@@ -64,10 +62,10 @@ fn is_past(session: &Session, line: &Line) -> bool
 /// The line that bytes are behind those that the session has gone through.
 fn state(alloc: Global, session: &Session, bytes: &[u8]) -> Result<Line, LineError>
     ensures exact { Gives (λ l. l) result
-        (stated (mode_of session.now.command session.now.opened) session.now.plans session.now.checks bytes.now) }
+        (stated session.now.command session.now.opened session.now.plans session.now.checks bytes.now) }
     ensures in_form { IfOk result (λ l. IsLine l) }
     ensures of_mode { IfOk result (λ l. IsOfMode (mode_of session.now.command session.now.opened) l) }
-    ensures plans { result ≡ Ok lines.Plan → session.now.plans < 64 }
+    ensures plans { result ≡ Ok lines.Plan → session.now.plans < most_plans session.now.command }
     ensures checks { (c : ℕ) → result ≡ Ok (lines.Check c) → session.now.checks < 64 }
 {
     let line = read_line(alloc, session.mode(), bytes)?;

@@ -25,11 +25,26 @@ fn points_behind(word: &str, points: &str) -> Option<u64>
 /// What one word asks for.
 fn asked_alone(word: &str) -> Option<Asked>
     ensures value { result ≡ spec.asked_alone word.now }
-    ensures range { IfSome result (λ asked. spec.used asked ≡ 1) }
+    ensures range { IfSome result (λ asked. spec.IsAsked asked) }
 {
     match word {
         "plan" => Some(Asked::Plan(1)),
         "check" => Some(Asked::Check),
+        "search" => Some(Asked::Search),
+        _ => None,
+    }
+}
+
+/// What two words ask for: `best K`.
+fn asked_of_two(word: &str, plans: &str) -> Option<Asked>
+    ensures value { result ≡ spec.asked_of_two word.now plans.now }
+    ensures range { IfSome result (λ asked. spec.IsAsked asked) }
+{
+    if word != "best" {
+        return None;
+    }
+    match number(plans.as_bytes()) {
+        Some(plans) if (1..=10).contains(&plans) => Some(Asked::Best(plans)),
         _ => None,
     }
 }
@@ -37,7 +52,7 @@ fn asked_alone(word: &str) -> Option<Asked>
 /// What three words ask for: `plan --workers N`.
 fn asked_of_three(word: &str, option: &str, workers: &str) -> Option<Asked>
     ensures value { result ≡ spec.asked_of_three word.now option.now workers.now }
-    ensures range { IfSome result (λ asked. (1 ≤ spec.used asked) × (spec.used asked ≤ 64)) }
+    ensures range { IfSome result (λ asked. spec.IsAsked asked) }
 {
     if word != "plan" || option != "--workers" {
         return None;
@@ -84,13 +99,15 @@ impl CommandWords {
         Ok(())
     }
 
-    /// What they ask for of a script: `plan`, `plan --workers N` with N from 1 to 64, or `check`.
+    /// What they ask for of a script: `plan`, `plan --workers N` with N from 1 to 64, `check`, `search`, or `best K`
+    /// with K from 1 to 10.
     pub(crate) fn asked(&self) -> Option<Asked>
         ensures value { result ≡ spec.asked_by self.now }
-        ensures range { IfSome result (λ asked. (1 ≤ spec.used asked) × (spec.used asked ≤ 64)) }
+        ensures range { IfSome result (λ asked. spec.IsAsked asked) }
     {
         match self.words.len() {
             1 => asked_alone(self.words[0].as_str()),
+            2 => asked_of_two(self.words[0].as_str(), self.words[1].as_str()),
             3 => asked_of_three(
                 self.words[0].as_str(),
                 self.words[1].as_str(),

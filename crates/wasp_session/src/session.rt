@@ -14,7 +14,7 @@ ghost use Rattle.wasp_session.specs.Modes.{HasPlans, IsCommand, IsOfMode, mode_o
 ghost use Rattle.wasp_session.specs.Solving.{IsCaseWanting, IsSolvable, LearnsCase};
 ghost use Rattle.wasp_session.specs.State.{IsState, begun, behind};
 ghost use Rattle.wasp_session.specs.Steps.{DoesLine, GainsFew, HasPlaceFor, IsPlaced, IsWantingAt};
-ghost use Rattle.wasp_session.specs.Tasks.{head_of, most_keys};
+ghost use Rattle.wasp_session.specs.Tasks.{head_of, most_keys, most_plans};
 ghost use Rattle.wasp_session.specs.declared.command.Command.TheVariants as commands;
 ghost use Rattle.wasp_session.specs.declared.command.Step.TheVariants as steps;
 
@@ -150,6 +150,16 @@ impl Session {
         self.plans
     }
 
+    /// The most PLAN lines that a script of its command may have.
+    pub fn most_plans(&self) -> u64
+        ensures { result ≡ most_plans self.now.command }
+    {
+        match self.command {
+            Command::Search => 3,
+            Command::Plan | Command::Check | Command::Best(_) => 64,
+        }
+    }
+
     /// How many CHECK lines there were.
     pub fn checks(&self) -> u64
         ensures value { result ≡ self.now.checks }
@@ -191,19 +201,29 @@ impl Session {
         ensures goes_on { GoesOn text.old text.new }
         ensures state { self.new ≡ record self.old { memory = self.new.memory } }
     {
-        let deck = &self.deck;
-        let memory = &mut self.memory;
-        let told = match self.command {
-            Command::Plan => plan_deck(self.alloc, rt, deck, memory, engines, text),
-            Command::Check => Ok(()),
-            Command::Search => search_deck(self.alloc, rt, deck, memory, engines, text),
-            Command::Best(plans) => {
-                rank_deck(self.alloc, rt, BestOf { deck, plans }, memory, engines, text)
+        // Each reading of the shelf tells the proof that it is one.
+        match self.command {
+            Command::Plan => {
+                let told = plan_deck(self.alloc, rt, &self.deck, &mut self.memory, engines, text);
+                let _shelf = self.memory.shelf();
+                told
             }
-        };
-        // Its reading tells the proof that the shelf is one.
-        let _shelf = self.memory.shelf();
-        told
+            Command::Check => Ok(()),
+            Command::Search => {
+                let told = search_deck(self.alloc, rt, &self.deck, &mut self.memory, engines, text);
+                let _shelf = self.memory.shelf();
+                told
+            }
+            Command::Best(plans) => {
+                let asked = BestOf {
+                    deck: &self.deck,
+                    plans,
+                };
+                let told = rank_deck(self.alloc, rt, asked, &mut self.memory, engines, text);
+                let _shelf = self.memory.shelf();
+                told
+            }
+        }
     }
 
     /// Tells what a PLAN line tells, behind its heading.

@@ -28,7 +28,7 @@ returns-in-Go g c =
     let E = g.E.SimEngine in
     let now = effort_by E.work c.args.engines.now c.args.session.now.memory.tally in
     record {
-      taken = taken_more c.in-Ok.line c.args.session.now c.line.new.self E.work c.args.engines.now c.line.new.engines c.args.text.now c.line.new.text c.in-Ok.ensures.of_mode c.requires.taken told.does;
+      taken = taken_more c.in-Ok.line c.args.session.now c.line.new.self E.work c.args.engines.now c.line.new.engines c.args.text.now c.line.new.text c.in-Ok.ensures.of_mode c.requires.taken told.does told.few;
       answer = λ command read said start number run.
           let few : length read < 100000 = omega (arith, number, c.requires.last) in
           let no_end : c.in-Ok.line ≢ lines.End = λ e. true≢false (ap goes (sym c.in-Go.is ∙ told.ended.1 e)) in (
@@ -47,7 +47,7 @@ returns-in-Ended g c =
     let end = at_end c.args.session.now c.line.new.self E.work c.args.engines.now c.line.new.engines c.args.text.now c.line.new.text
     (subst (λ (l : Line). DoesLine l c.args.session.now c.line.new.self E.work c.args.engines.now c.line.new.engines c.args.text.now c.line.new.text) is_end told.does) in
     record {
-      taken = taken_more c.in-Ok.line c.args.session.now c.line.new.self E.work c.args.engines.now c.line.new.engines c.args.text.now c.line.new.text c.in-Ok.ensures.of_mode c.requires.taken told.does;
+      taken = taken_more c.in-Ok.line c.args.session.now c.line.new.self E.work c.args.engines.now c.line.new.engines c.args.text.now c.line.new.text c.in-Ok.ensures.of_mode c.requires.taken told.does told.few;
       answer = λ command read said start number run.
           let few : length read < 100000 = omega (arith, number, c.requires.last) in
           let told_no : 1 ≤ c.line.new.self.nos = c.said_no.ensures.0 c.if-said_no.true in
@@ -64,7 +64,7 @@ returns-in-Ended-2 g c =
     let end = at_end c.args.session.now c.line.new.self E.work c.args.engines.now c.line.new.engines c.args.text.now c.line.new.text
     (subst (λ (l : Line). DoesLine l c.args.session.now c.line.new.self E.work c.args.engines.now c.line.new.engines c.args.text.now c.line.new.text) is_end told.does) in
     record {
-      taken = taken_more c.in-Ok.line c.args.session.now c.line.new.self E.work c.args.engines.now c.line.new.engines c.args.text.now c.line.new.text c.in-Ok.ensures.of_mode c.requires.taken told.does;
+      taken = taken_more c.in-Ok.line c.args.session.now c.line.new.self E.work c.args.engines.now c.line.new.engines c.args.text.now c.line.new.text c.in-Ok.ensures.of_mode c.requires.taken told.does told.few;
       answer = λ command read said start number run.
           let few : length read < 100000 = omega (arith, number, c.requires.last) in
           let nos : c.args.session.now.nos ≡ 0 = sym end.nos ∙ none_said c.said_no.result c.line.new.self.nos c.said_no.ensures c.if-said_no.false in

@@ -7,8 +7,9 @@ use Rattle.wasp4.proofs.words.asked_alone.Goals as goal
 not_same : (xs ys : List ℕ) → (xs ≡ ys → ⊥) → bytes_eq xs ys ≡ false
 not_same xs ys h = grind (arith, bytes_eq-Decides xs ys)
 
-none_asked : (word : List ℕ) → (word ≡ codes "check" → ⊥) → (word ≡ codes "plan" → ⊥) → None ≡ asked_alone word
-none_asked word not_check not_plan = rw (not_same word (codes "plan") not_plan, not_same word (codes "check") not_check) refl
+none_asked : (word : List ℕ) → (word ≡ codes "check" → ⊥) → (word ≡ codes "plan" → ⊥) → (word ≡ codes "search" → ⊥) → None ≡ asked_alone word
+none_asked word not_check not_plan not_search =
+    rw (not_same word (codes "plan") not_plan, not_same word (codes "check") not_check, not_same word (codes "search") not_search) refl
 
 pub returns-in_default : goal.returns-in_default
-returns-in_default c = record { value = none_asked c.args.word.now c.in_default.not-check c.in_default.not-plan; range = tt }
+returns-in_default c = record { value = none_asked c.args.word.now c.in_default.not-check c.in_default.not-plan c.in_default.not-search; range = tt }
