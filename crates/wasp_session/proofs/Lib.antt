@@ -11,6 +11,7 @@ mod LineSteps
 mod ListSteps
 mod ListedKeys
 pub mod ModeLines
+mod OnenessCases
 mod OnenessChecks
 mod OnenessKeys
 mod OnenessReports
@@ -23,6 +24,7 @@ mod ReportSteps
 mod ResultSteps
 mod SettleSteps
 mod ShelfSteps
+mod SolveSteps
 mod StudyOn
 mod TellBehind
 pub mod TellSteps

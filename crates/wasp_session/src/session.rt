@@ -4,14 +4,14 @@ ghost use Rattle.deck_lines.specs.Deck.{body_of, put, without};
 ghost use Rattle.deck_lines.specs.Grammar.{IsCertLine, IsLine};
 ghost use Rattle.deck_lines.specs.Statements.{IsStatement};
 ghost use Rattle.deck_lines.specs.declared.line.Line.TheVariants as lines;
-ghost use Rattle.plan_program.specs.Chosen.{IsOutcome};
+ghost use Rattle.plan_program.specs.Chosen.{IsSolution};
 ghost use Rattle.report_text.specs.Lines.{keys_line};
 ghost use Rattle.wasp_session.specs.Case.{IsTableOf};
 ghost use Rattle.wasp_session.specs.Checks.{nos_of, with_line};
 ghost use Rattle.wasp_session.specs.Inner.{GoesOn, IsLostOn, TellsDeck, TellsPlan};
 ghost use Rattle.wasp_session.specs.Listings.{deck_tunnels};
 ghost use Rattle.wasp_session.specs.Modes.{HasPlans, IsCommand, IsOfMode, mode_of};
-ghost use Rattle.wasp_session.specs.Solving.{IsCaseWanting, IsSolvable, LearnsCase};
+ghost use Rattle.wasp_session.specs.Solving.{IsCaseWanting, IsCaseWithin, IsSolvable, LearnsCase};
 ghost use Rattle.wasp_session.specs.State.{IsState, begun, behind};
 ghost use Rattle.wasp_session.specs.Steps.{DoesLine, GainsFew, HasPlaceFor, IsPlaced, IsWantingAt};
 ghost use Rattle.wasp_session.specs.Tasks.{head_of, most_keys, most_plans};
@@ -479,7 +479,8 @@ impl Session {
         requires place { HasPlaceFor 15000 self.old.memory }
         ensures table { IfOk result (λ done. IsTableOf (body_of self.old.deck) case
             (deck_tunnels (body_of self.old.deck) case) done.table) }
-        ensures outcome { IfOk result (λ done. IsOutcome done.table done.solved.outcome) }
+        ensures solution { IfOk result (λ done. IsSolution done.table done.solved) }
+        ensures within { OnOk result (IsCaseWithin (body_of self.old.deck) case) }
         ensures learns { OnOk result (LearnsCase (body_of self.old.deck) case self.old.memory self.new.memory E.work
             engines.old engines.new) }
         ensures few { OnOk result (GainsFew 15000 self.old.memory self.new.memory) }
