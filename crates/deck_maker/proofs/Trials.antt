@@ -1,14 +1,14 @@
 -- What is so of every trial deck.
-use Rattle.std.proofs.Common.{◌≡◌, ℕ, zero, suc, ◌≤◌, List, [], ◌∷◌, All, sym, subst, arith}
+use Rattle.std.proofs.Common.{◌≡◌, ℕ, zero, suc, ◌≤◌, List, [], ◌∷◌, All, refl, sym, subst, arith, true}
 use Rattle.std.proofs.lemmas.List.Elements.{All-cons}
 use Rattle.std.proofs.lemmas.Bool.{le-leb}
 use Rattle.deck_lines.specs.declared.head.Head.TheVariants as heads
 use Rattle.deck_lines.specs.Deck.{body_of}
 use Rattle.deck_check.specs.DeckFault.{HasNoFault, table}
 use Rattle.deck_check.specs.FaultTable.{IsUnmet, Row}
-use Rattle.deck_check.specs.Readings.{Says, first, numbers}
+use Rattle.deck_check.specs.Readings.{Says, first, is_there, numbers}
 use Rattle.year_system.specs.System.{size}
-use Rattle.deck_maker.specs.Laws.{TrialsHaveNoFault, TrialsAreNarrow, widths}
+use Rattle.deck_maker.specs.Laws.{IsOneCase, TrialsHaveNoFault, TrialsHaveOneCase, TrialsAreNarrow, said_widths, widths}
 use Rattle.deck_maker.specs.TrialDeck.{trial}
 use Rattle.deck_maker.proofs.NoFault as general
 use Rattle.deck_maker.proofs.YearRows as yearly
@@ -121,3 +121,26 @@ narrow_at s y (suc (suc (suc (suc (suc (suc (suc c))))))) t many low high = absu
 pub narrow : TrialsAreNarrow
 narrow seed years candidates t many low high =
     subst (λ (d : Says). size (widths (numbers d (heads.Tunnel 1 t))) ≤ 64) (same_map seed years candidates) (narrow_at seed years candidates t many low high)
+
+narrow_said : (s y c t : ℕ) → c ≤ 6 → 1 ≤ t → t ≤ y → size (said_widths (says s y c) t) ≤ 64
+unfolding first
+narrow_said s y zero t many low high = rw (le-leb 1 t low, le-leb t y high) (omega arith)
+narrow_said s y (suc zero) t many low high = rw (le-leb 1 t low, le-leb t y high) (omega arith)
+narrow_said s y (suc (suc zero)) t many low high = rw (le-leb 1 t low, le-leb t y high) (omega arith)
+narrow_said s y (suc (suc (suc zero))) t many low high = rw (le-leb 1 t low, le-leb t y high) (omega arith)
+narrow_said s y (suc (suc (suc (suc zero)))) t many low high = rw (le-leb 1 t low, le-leb t y high) (omega arith)
+narrow_said s y (suc (suc (suc (suc (suc zero))))) t many low high = rw (le-leb 1 t low, le-leb t y high) (omega arith)
+narrow_said s y (suc (suc (suc (suc (suc (suc zero)))))) t many low high = rw (le-leb 1 t low, le-leb t y high) (omega arith)
+narrow_said s y (suc (suc (suc (suc (suc (suc (suc c))))))) t many low high = absurd (omega (arith, many))
+
+there_at : (s y c t : ℕ) → 1 ≤ t → t ≤ y → is_there (says s y c) (heads.Tunnel 1 t) ≡ true
+there_at s y c t low high = rw (le-leb 1 t low, le-leb t y high) refl
+
+pub one_case : TrialsHaveOneCase
+one_case seed many candidates few =
+    subst (λ (d : Says). IsOneCase d many) (same_map seed many candidates) (record {
+      years = refl;
+      cases = refl;
+      there = there_at seed many candidates;
+      narrow = λ t low high. narrow_said seed many candidates t few low high;
+    })

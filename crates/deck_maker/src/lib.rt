@@ -18,5 +18,5 @@ mod laws;
 mod making;
 mod stream;
 
-pub use laws::{trials_are_narrow, trials_have_no_fault};
+pub use laws::{trials_are_narrow, trials_have_no_fault, trials_have_one_case};
 pub use making::make_deck;

@@ -5,4 +5,5 @@ pub mod ReadBack
 pub mod Refusals
 pub mod Report
 pub mod Rounds
+pub mod Trial
 pub mod Verdicts

@@ -18,6 +18,7 @@ mod laws;
 mod numbers;
 mod refusals;
 mod script;
+mod trial;
 mod verdicts;
 mod year;
 
@@ -28,4 +29,5 @@ pub use refusals::{Refusal, write_refusal};
 pub use script::{
     write_best_heading, write_heading, write_keys, write_malformed, write_search_heading,
 };
+pub use trial::write_trial;
 pub use verdicts::{Judged, write_verdict};

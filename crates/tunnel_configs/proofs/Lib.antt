@@ -1,4 +1,5 @@
 mod Boxes
+mod Counting
 mod Gathered
 mod Margins
 mod Risings

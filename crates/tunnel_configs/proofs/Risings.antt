@@ -46,11 +46,11 @@ pub rising_none : AreRising []
 unfolding IsStrictlySortedBy
 rising_none = tt
 
-rising_first : (x : List ℕ) (xs : List (List ℕ)) → AreRising (x ∷ xs) → (c : List ℕ) → Contains xs c → slice_cmp nat_cmp x c ≡ Less
+pub rising_first : (x : List ℕ) (xs : List (List ℕ)) → AreRising (x ∷ xs) → (c : List ℕ) → Contains xs c → slice_cmp nat_cmp x c ≡ Less
 unfolding IsStrictlySortedBy
 rising_first x xs s = contained (λ y. slice_cmp nat_cmp x y ≡ Less) xs s.0
 
-rising_rest : (x : List ℕ) (xs : List (List ℕ)) → AreRising (x ∷ xs) → AreRising xs
+pub rising_rest : (x : List ℕ) (xs : List (List ℕ)) → AreRising (x ∷ xs) → AreRising xs
 unfolding IsStrictlySortedBy
 rising_rest x xs s = s.1
 

@@ -9,7 +9,7 @@ use Rattle.plant_data.specs.declared.row.Margin.{Margin}
 use Rattle.plant_data.specs.declared.row.Tunnel.{Tunnel}
 use Rattle.plant_data.specs.declared.shape.Load.{Load}
 use Rattle.year_system.specs.Capacity.{capacity}
-use Rattle.year_system.specs.System.{System, greatest, size}
+use Rattle.year_system.specs.System.{System, size}
 
 -- how many configurations a tunnel has: its box
 abbrev pub box_size : Tunnel → ℕ
@@ -64,3 +64,8 @@ pub record HasListing (s : System) (t : Tunnel) (m : Margin) (n : ℕ) : Type 0 
 abbrev pub ListingsAreOne : Type 0
 ListingsAreOne = (s : System) (t : Tunnel) (m : Margin) (one other : List (List ℕ)) →
     IsListing s t m one → IsListing s t m other → one ≡ other
+
+-- a listing has no more configurations than the tunnel
+abbrev pub ListingsFit : Type 0
+ListingsFit = (s : System) (t : Tunnel) (m : Margin) (configs : List (List ℕ)) →
+    length t.width ≡ length t.least → IsListing s t m configs → length configs ≤ box_size t

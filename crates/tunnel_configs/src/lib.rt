@@ -16,4 +16,4 @@ mod margin;
 mod walk;
 
 pub use error::ConfigsError;
-pub use listing::{configs, listings_are_one};
+pub use listing::{configs, listings_are_one, listings_fit};

@@ -1,7 +1,7 @@
 //! The listed configurations of a year.
 ghost use Rattle.std.specs.Prelude.{◌≡◌, ℕ, ◌+◌, ◌<◌, ◌≤◌, ◌++◌, [], ◌∷◌, All, IfOk, OnOk, IsErrOf, length, take};
 ghost use Rattle.plant_data.specs.Tunnels.{IsTunnelOf};
-ghost use Rattle.tunnel_configs.specs.Listed.{HasListing, IsListing, ListingsAreOne, box_size};
+ghost use Rattle.tunnel_configs.specs.Listed.{HasListing, IsListing, ListingsAreOne, ListingsFit, box_size};
 ghost use Rattle.tunnel_configs.specs.Neighbours.{Considered, IsGathered};
 ghost use Rattle.year_system.specs.System.{Fits, IsLoad, greatest};
 ghost use Rattle.tunnel_configs.specs.declared.error.ConfigsError.TheVariants.{TooMany, TooWide};
@@ -122,4 +122,9 @@ pub fn configs(
 /// order, whatever made it.
 pub fn listings_are_one()
     ensures { ListingsAreOne }
+{}
+
+/// The law that a listing has no more configurations than its tunnel.
+pub fn listings_fit()
+    ensures { ListingsFit }
 {}

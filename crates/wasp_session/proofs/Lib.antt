@@ -12,6 +12,7 @@ mod LineSteps
 mod ListSteps
 mod ListedKeys
 pub mod ModeLines
+mod OnenessCases
 mod OnenessChecks
 mod OnenessKeys
 mod OnenessReports
@@ -24,6 +25,7 @@ mod ReportSteps
 mod ResultSteps
 mod SettleSteps
 mod ShelfSteps
+mod SolveSteps
 mod StudyOn
 mod TellBehind
 pub mod TellSteps

@@ -22,7 +22,7 @@ stays_in x z ys i b e apart (j, bj, ej) =
     (cases_lt j i)
 
 -- distinct elements of another list are no more than it has
-no_longer : {X : Type 0} (xs ys : List X) → AllPairs (λ one other. one ≢ other) xs → ((z : X) → Contains xs z → Contains ys z) → length xs ≤ length ys
+pub no_longer : {X : Type 0} (xs ys : List X) → AllPairs (λ one other. one ≢ other) xs → ((z : X) → Contains xs z → Contains ys z) → length xs ≤ length ys
 no_longer [] ys apart inside = omega arith
 no_longer (x ∷ xs) ys apart inside =
     let at = inside x (0, omega arith, refl) in

@@ -8,6 +8,7 @@ ghost use Rattle.wasp_session.specs.Oneness.{
   TellingsAreOne,
   TellingsGoOn,
 };
+ghost use Rattle.wasp_session.specs.Solving.{SolvedCasesAreOne};
 
 use tunnel_configs::listings_are_one;
 
@@ -53,3 +54,10 @@ pub fn key_lists_are_one()
 pub fn telling_of_a_front()
     ensures { TellingOfAFront }
 {}
+
+/// A case of a deck has one solution and one set of keys.
+pub fn solved_cases_are_one()
+    ensures { SolvedCasesAreOne }
+{
+    listings_are_one();
+}

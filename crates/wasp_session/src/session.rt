@@ -4,10 +4,14 @@ ghost use Rattle.deck_lines.specs.Deck.{body_of, put, without};
 ghost use Rattle.deck_lines.specs.Grammar.{IsCertLine, IsLine};
 ghost use Rattle.deck_lines.specs.Statements.{IsStatement};
 ghost use Rattle.deck_lines.specs.declared.line.Line.TheVariants as lines;
+ghost use Rattle.plan_program.specs.Chosen.{IsSolution};
 ghost use Rattle.report_text.specs.Lines.{keys_line};
+ghost use Rattle.wasp_session.specs.Case.{IsTableOf};
 ghost use Rattle.wasp_session.specs.Checks.{nos_of, with_line};
 ghost use Rattle.wasp_session.specs.Inner.{GoesOn, IsLostOn, TellsDeck, TellsPlan};
+ghost use Rattle.wasp_session.specs.Listings.{deck_tunnels};
 ghost use Rattle.wasp_session.specs.Modes.{HasPlans, IsCommand, IsOfMode, mode_of};
+ghost use Rattle.wasp_session.specs.Solving.{IsCaseWanting, IsCaseWithin, IsSolvable, LearnsCase};
 ghost use Rattle.wasp_session.specs.State.{IsState, begun, behind};
 ghost use Rattle.wasp_session.specs.Steps.{DoesLine, GainsFew, HasPlaceFor, IsPlaced, IsWantingAt};
 ghost use Rattle.wasp_session.specs.Tasks.{head_of, most_keys, most_plans};
@@ -21,13 +25,14 @@ use crate::memory::Memory;
 use crate::opened::OpenCheck;
 use crate::plan::plan_deck;
 use crate::searching::search_deck;
+use crate::solving::solve_deck;
 use deck_lines::{CertLine, Deck, Head, Line, Mode, Statement};
 use plan_certificate::Verdict;
 use report_text::{
     Judged, write_best_heading, write_heading, write_keys, write_search_heading, write_verdict,
 };
 use sim_engine::SimEngine;
-use sim_sweep::Tally;
+use sim_sweep::{CaseDone, Tally};
 use std::alloc::Global;
 use std::marker::Model;
 use std::thread::Threads;
@@ -457,5 +462,48 @@ impl Session {
             }
             Line::Blank | Line::Skip => Ok(Step::Go),
         }
+    }
+
+    /// Solves a case of the deck, of which no year is over a limit, as a PLAN would: its table and the solution. The
+    /// rows of the case's keys are then kept; those that are new are simulated by the engines, each once. Nothing is
+    /// detailed, and nothing else of the session changes.
+    pub fn solve_case<E: SimEngine, R: Threads + Sync>(
+        &mut self,
+        rt: &R,
+        case: u64,
+        engines: &mut [E],
+    ) -> Result<CaseDone, OutOfMemory>
+        requires some { 1 ≤ length engines.old }
+        requires most { length engines.old ≤ 64 }
+        requires solvable { IsSolvable (body_of self.old.deck) case }
+        requires place { HasPlaceFor 15000 self.old.memory }
+        ensures table { IfOk result (λ done. IsTableOf (body_of self.old.deck) case
+            (deck_tunnels (body_of self.old.deck) case) done.table) }
+        ensures solution { IfOk result (λ done. IsSolution done.table done.solved) }
+        ensures within { OnOk result (IsCaseWithin (body_of self.old.deck) case) }
+        ensures learns { OnOk result (LearnsCase (body_of self.old.deck) case self.old.memory self.new.memory E.work
+            engines.old engines.new) }
+        ensures few { OnOk result (GainsFew 15000 self.old.memory self.new.memory) }
+        ensures state { OnOk result (self.new ≡ record self.old { memory = self.new.memory }) }
+        ensures err { OnErr result (IsCaseWanting case self.old self.new E.work engines.old engines.new) }
+        ensures later { IsTrue self.old.refused → IsErr result }
+    {
+        if self.refused {
+            return Err(OutOfMemory);
+        }
+        self.refused = true;
+        let solved = solve_deck(
+            self.alloc,
+            rt,
+            &self.deck,
+            case,
+            &mut self.memory,
+            engines,
+        );
+        // Its reading tells the proof that the shelf is one.
+        let _shelf = self.memory.shelf();
+        let done = solved?;
+        self.refused = false;
+        Ok(done)
     }
 }
