@@ -7,6 +7,7 @@ mod DetailSteps
 pub mod FollowSteps
 mod GenerationSteps
 mod LearnSteps
+mod LearnThen
 mod LineSteps
 mod ListSteps
 mod ListedKeys
