@@ -27,7 +27,7 @@ fn push_plan(report: &CaseReport, lines: &mut Vec<u8>) -> Result<(), OutOfMemory
 }
 
 /// Appends the line of the plan's cost, or of the first year that no plan reaches.
-fn push_outcome(outcome: &Outcome, lines: &mut Vec<u8>) -> Result<(), OutOfMemory>
+pub(crate) fn push_outcome(outcome: &Outcome, lines: &mut Vec<u8>) -> Result<(), OutOfMemory>
     ensures { OnOk result (lines.new.items ≡ lines.old.items ++ outcome_line outcome.now) }
 {
     let alloc = *lines.allocator();

@@ -20,6 +20,7 @@ mod OverSteps
 mod PlanSteps
 mod PlanTold
 mod PrintSteps
+mod RankSteps
 mod ReportSteps
 mod ResultSteps
 mod SettleSteps
