@@ -30,6 +30,13 @@ pub(crate) struct BestOf<'a> {
     pub(crate) plans: u64,
 }
 
+/// The same of one without a fault.
+#[derive(Drop)]
+struct BestOfTyped<'a> {
+    typed: &'a TypedDeck,
+    plans: u64,
+}
+
 /// A case of a deck without a fault, and how many of its plans are asked for.
 #[derive(Drop)]
 struct BestOfCase<'a> {
@@ -54,7 +61,7 @@ fn rank_table(
     ensures goes_on { GoesOn text.old text.new }
 {
     let ranking = best(alloc, table, asked.plans)?;
-    if ranking.is_empty() {
+    if ranking.len() == 0 {
         let solved = solve(alloc, table)?;
         return write_no_plan(asked.case, &solved.outcome, text);
     }
@@ -119,34 +126,34 @@ fn rank_case<E: SimEngine, R: Threads + Sync>(
 fn rank_typed<E: SimEngine, R: Threads + Sync>(
     alloc: Global,
     rt: &R,
-    asked: (&TypedDeck, u64),
+    asked: &BestOfTyped,
     memory: &mut Memory,
     engines: &mut [E],
     text: &mut Vec<u8>,
 ) -> Result<(), OutOfMemory>
     requires some { 1 ≤ length engines.old }
     requires most { length engines.old ≤ 64 }
-    requires one { 1 ≤ asked.1 }
-    requires ten { asked.1 ≤ 10 }
+    requires one { 1 ≤ asked.now.plans }
+    requires ten { asked.now.plans ≤ 10 }
     requires place { HasPlaceFor 120000 memory.old }
-    ensures told { OnOk result (Tells (IsDeckRanked asked.1 (body_of asked.0.now))
-        (HasNoFault (body_of asked.0.now)) (BestDemands (body_of asked.0.now))
-        (body_of asked.0.now) memory.old memory.new E.work engines.old engines.new text.old text.new 0) }
+    ensures told { OnOk result (Tells (IsDeckRanked asked.now.plans (body_of asked.now.typed.now))
+        (HasNoFault (body_of asked.now.typed.now)) (BestDemands (body_of asked.now.typed.now))
+        (body_of asked.now.typed.now) memory.old memory.new E.work engines.old engines.new text.old text.new 0) }
     ensures few { OnOk result (GainsFew 120000 memory.old memory.new) }
-    ensures err { OnErr result (IsLost (HasNoFault (body_of asked.0.now)) (BestDemands (body_of asked.0.now))
-        (body_of asked.0.now) memory.old memory.new E.work engines.old engines.new) }
+    ensures err { OnErr result (IsLost (HasNoFault (body_of asked.now.typed.now))
+        (BestDemands (body_of asked.now.typed.now)) (body_of asked.now.typed.now)
+        memory.old memory.new E.work engines.old engines.new) }
     ensures goes_on { GoesOn text.old text.new }
 {
-    let (typed, plans) = asked;
     // Its reading tells the proof that there are at most 30 years, and that the deck meets no row of the fault table.
-    let _years = typed.years();
-    for c in 0..typed.cases() {
-        let asked = BestOfCase {
-            typed,
+    let _years = asked.typed.years();
+    for c in 0..asked.typed.cases() {
+        let one = BestOfCase {
+            typed: asked.typed,
             case: c + 1,
-            plans,
+            plans: asked.plans,
         };
-        rank_case(alloc, rt, &asked, memory, engines, text)?;
+        rank_case(alloc, rt, &one, memory, engines, text)?;
         // Its reading tells the proof that no two systems are the same.
         let _shelf = memory.shelf();
     }
@@ -178,7 +185,13 @@ pub(crate) fn rank_deck<E: SimEngine, R: Threads + Sync>(
 {
     faults_are_met();
     match check(asked.deck) {
-        Ok(typed) => rank_typed(alloc, rt, (&typed, asked.plans), memory, engines, text),
+        Ok(typed) => {
+            let typed = BestOfTyped {
+                typed: &typed,
+                plans: asked.plans,
+            };
+            rank_typed(alloc, rt, &typed, memory, engines, text)
+        }
         Err(CheckError::OutOfMemory) => Err(OutOfMemory),
         Err(CheckError::Fault(fault)) => write_refusal(&Refusal::Deck(fault), text),
     }
