@@ -34,3 +34,9 @@ returns-in-Err-Fault-clause-err g c =
 
 pub returns-in-Err-Fault-clause-goes_on : goal.returns-in-Err-Fault-clause-goes_on
 returns-in-Err-Fault-clause-goes_on g c = goes_either c.write_refusal.result c.args.text.now c.write_refusal.new.text _ c.write_refusal.ensures.appended c.write_refusal.ensures.kept
+
+pub returns-in-Ok-clause-told : goal.returns-in-Ok-clause-told
+returns-in-Ok-clause-told g c = rw c.in-Ok.ensures.typed at c.rank_typed.ensures.told
+
+pub returns-in-Ok-clause-err : goal.returns-in-Ok-clause-err
+returns-in-Ok-clause-err g c = rw c.in-Ok.ensures.typed at c.rank_typed.ensures.err

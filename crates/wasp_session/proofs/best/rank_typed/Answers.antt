@@ -23,7 +23,7 @@ returns-in_err-rank_case-clause-err g c =
     let d = body_of c.args.asked.now.typed.now in
     on_err _ _
     (lost_more {X = g.row.E.Denot} d c.loop-c.c c.args.memory.now c.loop-c.memory c.rank_case.new.memory g.E.SimEngine.work c.args.engines.now c.loop-c.engines c.rank_case.new.engines
-    c.years.ensures.valid.faultless c.loop-c.invariant.learns c.in_err-rank_case.ensures.err)
+    c.years-years.ensures.valid.faultless c.loop-c.invariant.learns c.in_err-rank_case.ensures.err)
 
 pub loop-c-preserved : goal.loop-c-preserved
 loop-c-preserved g c =
@@ -32,12 +32,12 @@ loop-c-preserved g c =
     let before = c.loop-c.invariant in
     let one = c.in_ok-rank_case.ensures in
     let learns = learns_more {X = g.row.E.Denot} d c.loop-c.c c.args.memory.now c.loop-c.memory c.rank_case.new.memory g.E.SimEngine.work c.args.engines.now c.loop-c.engines c.rank_case.new.engines
-    c.years.ensures.valid.faultless before.learns one.learns in
-    let few : years d ≤ 30 = omega (arith, c.years.ensures.value, c.years.ensures.high) in
+    c.years-years.ensures.valid.faultless before.learns one.learns in
+    let few : years d ≤ 30 = omega (arith, c.years-years.ensures.value, c.years-years.ensures.high) in
     record {
       told = ranked_more d k c.loop-c.c c.args.text.now c.loop-c.text c.rank_case.new.text before.told one.told;
       learns = learns;
-      few = few_more {X = g.row.E.Denot} d c.loop-c.c c.args.memory.now c.loop-c.memory c.rank_case.new.memory g.E.SimEngine.work c.args.engines.now c.rank_case.new.engines few c.shelf.ensures.valid learns before.few one.few;
+      few = few_more {X = g.row.E.Denot} d c.loop-c.c c.args.memory.now c.loop-c.memory c.rank_case.new.memory g.E.SimEngine.work c.args.engines.now c.rank_case.new.engines few c.shelf-shelf.ensures.valid learns before.few one.few;
       some = omega (arith, before.some);
       most = omega (arith, before.most);
       goes_on = on_then c.args.text.now c.loop-c.text c.rank_case.new.text before.goes_on one.goes_on;
@@ -46,6 +46,6 @@ loop-c-preserved g c =
 pub returns-clause-told : goal.returns-clause-told
 returns-clause-told g c =
     let d = body_of c.args.asked.now.typed.now in
-    let all : c.loop-c.c ≡ cases d = omega (arith, c.cases.ensures.value) in
+    let all : c.loop-c.c ≡ cases d = omega (arith, c.cases-c-end.ensures.value) in
     deck_ranked {X = g.row.E.Denot} d c.args.asked.now.plans c.loop-c.c c.args.memory.now c.loop-c.memory g.E.SimEngine.work c.args.engines.now c.loop-c.engines c.args.text.now c.loop-c.text
-    c.years.ensures.valid.faultless all c.loop-c.invariant.told c.loop-c.invariant.learns
+    c.years-years.ensures.valid.faultless all c.loop-c.invariant.told c.loop-c.invariant.learns
