@@ -1,11 +1,14 @@
-use Rattle.std.proofs.Common.{◌∙◌, ap, ◌++◌, Err}
+use Rattle.std.proofs.Common.{◌∙◌, ap, subst, ◌++◌, List, Err}
+use Rattle.std.specs.Prelude.{OnErr, OnOk}
 use Rattle.std.proofs.lemmas.Result.{on_ok_weaker}
 use Rattle.deck_check.specs.DeckFault.{HasNoFault}
 use Rattle.deck_check.specs.declared.fault.DeckFault.{DeckFault}
 use Rattle.deck_lines.specs.Deck.{body_of}
+use Rattle.deck_lines.specs.declared.statement.Statement.{Statement}
 use Rattle.report_text.specs.Refusals.{refusal_line}
 use Rattle.report_text.specs.declared.refusals.Refusal.TheVariants.{Deck}
-use Rattle.wasp_session.specs.Ranks.{BestDemands}
+use Rattle.wasp_session.specs.Ranks.{BestDemands, IsDeckRanked}
+use Rattle.wasp_session.specs.Steps.{IsLost, Tells}
 use Rattle.wasp_session.proofs.LearnSteps.{lost_none}
 use Rattle.wasp_session.proofs.PlanTold.{goes_either}
 use Rattle.wasp_session.proofs.RankSteps.{fault_told}
@@ -36,7 +39,15 @@ pub returns-in-Err-Fault-clause-goes_on : goal.returns-in-Err-Fault-clause-goes_
 returns-in-Err-Fault-clause-goes_on g c = goes_either c.write_refusal.result c.args.text.now c.write_refusal.new.text _ c.write_refusal.ensures.appended c.write_refusal.ensures.kept
 
 pub returns-in-Ok-clause-told : goal.returns-in-Ok-clause-told
-returns-in-Ok-clause-told g c = rw c.in-Ok.ensures.typed at c.rank_typed.ensures.told
+returns-in-Ok-clause-told g c =
+    subst
+    (λ (x : List Statement). OnOk c.rank_typed.result (Tells {X = g.row.E.Denot} (IsDeckRanked c.args.asked.plans (body_of x)) (HasNoFault (body_of x)) (BestDemands (body_of x)) (body_of x)
+    c.args.memory.now c.rank_typed.new.memory g.E.SimEngine.work c.args.engines.now c.rank_typed.new.engines c.args.text.now c.rank_typed.new.text 0))
+    (c.in-Ok.typed-is ∙ c.in-Ok.ensures.typed) c.rank_typed.ensures.told
 
 pub returns-in-Ok-clause-err : goal.returns-in-Ok-clause-err
-returns-in-Ok-clause-err g c = rw c.in-Ok.ensures.typed at c.rank_typed.ensures.err
+returns-in-Ok-clause-err g c =
+    subst
+    (λ (x : List Statement). OnErr c.rank_typed.result (IsLost {X = g.row.E.Denot} (HasNoFault (body_of x)) (BestDemands (body_of x)) (body_of x)
+    c.args.memory.now c.rank_typed.new.memory g.E.SimEngine.work c.args.engines.now c.rank_typed.new.engines))
+    (c.in-Ok.typed-is ∙ c.in-Ok.ensures.typed) c.rank_typed.ensures.err
