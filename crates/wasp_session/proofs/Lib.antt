@@ -12,8 +12,10 @@ mod LineSteps
 mod ListSteps
 mod ListedKeys
 pub mod ModeLines
+mod OneOutcome
 mod OnenessChecks
 mod OnenessKeys
+mod OnenessRanks
 mod OnenessReports
 mod OnenessTellings
 mod OverSteps
