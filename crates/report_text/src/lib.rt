@@ -16,6 +16,7 @@ mod come;
 mod data;
 mod laws;
 mod numbers;
+mod ranking;
 mod refusals;
 mod script;
 mod trial;
@@ -25,6 +26,7 @@ mod year;
 pub use case::write_case;
 pub use data::{CaseReport, Generation, Generations, PlanYear};
 pub use laws::reports_read_back;
+pub use ranking::{write_no_plan, write_over, write_ranking};
 pub use refusals::{Refusal, write_refusal};
 pub use script::{
     write_best_heading, write_heading, write_keys, write_malformed, write_search_heading,
