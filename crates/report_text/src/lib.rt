@@ -17,6 +17,7 @@ mod data;
 mod laws;
 mod numbers;
 mod refusals;
+mod rounds;
 mod script;
 mod verdicts;
 mod year;
@@ -25,6 +26,9 @@ pub use case::write_case;
 pub use data::{CaseReport, Generation, Generations, PlanYear};
 pub use laws::reports_read_back;
 pub use refusals::{Refusal, write_refusal};
+pub use rounds::{
+    Found, write_barred, write_case_line, write_found, write_inside, write_round, write_rounds_end,
+};
 pub use script::{
     write_best_heading, write_heading, write_keys, write_malformed, write_search_heading,
 };

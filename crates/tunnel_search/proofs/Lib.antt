@@ -1,0 +1,2 @@
+mod MovedTunnels
+mod WorkedRows

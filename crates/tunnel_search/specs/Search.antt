@@ -1,10 +1,10 @@
 -- Tunnels that move: by the marks of a chosen configuration each candidate's tunnel moves towards where the count
 -- stands at an edge. After the way in which planners move the tunnels of WASP-IV by the signs + and - of its report
 -- (IAEA Computer Manual Series No. 16); the rule for each mark is this program's own.
-use Rattle.std.specs.Prelude.{◌≡◌, ℕ, zero, suc, ◌+◌, ◌-◌, ◌×◌, All, Bool, true, false, List, length, map, slice_index}
+use Rattle.std.specs.Prelude.{◌≡◌, ℕ, zero, suc, ◌+◌, ◌-◌, Bool, true, false, EachIndex, List, codes, length, map, slice_index}
 use Rattle.std.specs.List.{range_with_len}
 use Rattle.plant_data.specs.declared.row.Tunnel.{Tunnel}
-use Rattle.report_text.specs.Marks.{is_lower, is_upper, marks}
+use Rattle.report_text.specs.Marks.{is_lower, is_upper, mark_at}
 
 -- the least count and the width of a candidate, by its mark: whether the count stands at the upper edge, and whether
 -- at the lower
@@ -31,6 +31,6 @@ moved_tunnel greatest tunnel counts = record {
   width = map (λ k. (moved_at greatest tunnel counts k).1) (range_with_len 0 (length counts));
 }
 
--- no count stands at an edge that may be moved: each mark is a dot
+-- no count stands at an edge that may be moved: the mark of each candidate is a dot
 abbrev pub IsInside : List ℕ → Tunnel → List ℕ → Type 0
-IsInside greatest tunnel counts = All (λ m. m ≡ 46) (marks greatest tunnel counts)
+IsInside greatest tunnel counts = EachIndex counts (λ k. mark_at greatest tunnel counts k ≡ codes ".")

@@ -1,18 +1,16 @@
 -- What `search` tells of a PLAN line: each case is planned round by round, its tunnels moved in between, until no chosen
 -- configuration stands at an edge that may be moved, a round is refused or infeasible, or 20 rounds are done. This
 -- program's own.
-use Rattle.std.specs.Prelude.{◌≡◌, ℕ, zero, suc, ◌+◌, ◌-◌, ◌<◌, ◌≤◌, ◌⊎◌, ◌++◌, List, [], ◌∷◌, Option, None, Some, codes, decimal, map, slice_index_or}
+use Rattle.std.specs.Prelude.{◌≡◌, ℕ, zero, suc, ◌+◌, ◌-◌, ◌<◌, ◌≤◌, ◌⊎◌, ◌++◌, List, [], ◌∷◌, Option, None, Some, map, slice_index_or}
 use Rattle.std.specs.List.{range_with_len}
 use Rattle.cost_terms.specs.Table.{Table}
 use Rattle.deck_check.specs.DeckFault.{HasNoFault}
 use Rattle.deck_check.specs.Readings.{Says, cases, greatest, years}
 use Rattle.plan_program.specs.Chosen.{IsInfeasible, IsPlanOf}
-use Rattle.plan_program.specs.declared.solved.Outcome.TheVariants.{Infeasible}
-use Rattle.report_text.specs.Lines.{line}
 use Rattle.report_text.specs.Refusals.{refusal_line}
-use Rattle.report_text.specs.Report.{outcome_line}
-use Rattle.report_text.specs.Rounds.{Found, found_text, inside_line, round_line, rounds_line, search_heading}
+use Rattle.report_text.specs.Rounds.{barred_line, case_line, found_text, inside_line, round_line, rounds_line, search_heading}
 use Rattle.report_text.specs.declared.refusals.Refusal.{Refusal}
+use Rattle.report_text.specs.declared.rounds.Found.{Found}
 use Rattle.sim_engine.specs.Engine.{Run}
 use Rattle.tunnel_search.specs.Search.{IsInside, moved_tunnel}
 use Rattle.wasp_session.specs.Case.{IsTableOf}
@@ -61,7 +59,7 @@ pub record EndsOver (d : Says) (c : ℕ) (tunnels : Tunnels) (last : Option Foun
 pub record EndsBarred (d : Says) (c : ℕ) (tunnels : Tunnels) (last : Option Found) (text : List ℕ) : Type 0 where
   pub year : ℕ
   pub barred : IsBarred d c tunnels year
-  pub is : text ≡ outcome_line (Infeasible year) ++ found_text c last
+  pub is : text ≡ barred_line year ++ found_text c last
 
 -- a round with a plan, and what is told behind its line
 pub record GoesBehind (d : Says) (c round : ℕ) (tunnels : Tunnels) (Behind : Found → List ℕ → Type 0) (text : List ℕ) : Type 0 where
@@ -93,7 +91,7 @@ AreRounds (suc more) d c round tunnels last text =
 pub record IsCaseSearched (d : Says) (c : ℕ) (told : Told) : Type 0 where
   pub rounds : List ℕ
   pub are_rounds : AreRounds 19 d c 1 (deck_tunnels d c) None rounds
-  pub is : told ≡ plain (line (codes "CASE") (decimal c ∷ []) ++ rounds)
+  pub is : told ≡ plain (case_line c ++ rounds)
 
 -- of the first cases
 abbrev pub AreCasesSearched : Says → ℕ → Told → Type 0
