@@ -12,9 +12,9 @@ use Rattle.report_text.specs.Verdicts.{verdict_line}
 use Rattle.report_text.specs.declared.verdicts.Judged.{Judged}
 use Rattle.sim_engine.specs.Engine.{Run, Work}
 use Rattle.wasp_session.specs.Checks.{IsChecked, IsJudged, Open, nos_of, with_line}
-use Rattle.wasp_session.specs.Keys.{Demands, DemandsAtEnd, DemandsChecked, IsCheckedAtEnd}
-use Rattle.wasp_session.specs.Listings.{IsTaken}
-use Rattle.wasp_session.specs.Said.{IsCheckTold, IsPlanTold}
+use Rattle.wasp_session.specs.Inner.{TellsPlan}
+use Rattle.wasp_session.specs.Keys.{DemandsAtEnd, DemandsChecked, IsCheckedAtEnd}
+use Rattle.wasp_session.specs.Said.{IsCheckTold}
 use Rattle.wasp_session.specs.State.{MemoryIs, State, behind}
 use Rattle.wasp_session.specs.Steps.{Does, DoesLine, IsTakenAt, Learns, Tells, line_asks, line_told}
 use Rattle.wasp_session.specs.Told.{Told, nothing, plain}
@@ -105,8 +105,7 @@ end_line line s t work es said said_now is text same =
 
 -- what a session tells as its last PLAN
 abbrev PlanTells : {X Z : Type 0} → State → MemoryIs → (X → Work) → List X → List X → Vec ℕ Z → Vec ℕ Z → Type 0
-PlanTells z m work es fs said said_now =
-    Tells (IsPlanTold z.plans (body_of z.deck)) (IsTaken (body_of z.deck)) (Demands (body_of z.deck)) (body_of z.deck) z.memory m work es fs said said_now 0
+PlanTells z m work es fs said said_now = TellsPlan z.command z.plans z.deck z.memory m work es fs said said_now
 
 -- behind the flag, as the next PLAN
 pub plan_does : {X Z : Type 0} (s mid t u : State) (work : X → Work) (es fs : List X) (said said_now : Vec ℕ Z) → mid ≡ record s { plans = s.plans + 1; refused = true } → t ≡ record mid { memory = t.memory }

@@ -6,8 +6,8 @@ use Rattle.deck_lines.specs.declared.line.Line.{Line}
 use Rattle.deck_lines.specs.declared.line.Line.TheVariants as lines
 use Rattle.sim_engine.specs.Engine.{Run, Work}
 use Rattle.wasp_session.specs.Checks.{IsChecked, Open}
-use Rattle.wasp_session.specs.Keys.{Demands, DemandsAtEnd, DemandsChecked, IsCheckedAtEnd}
-use Rattle.wasp_session.specs.Listings.{IsTaken}
+use Rattle.wasp_session.specs.Inner.{IsLostOn}
+use Rattle.wasp_session.specs.Keys.{DemandsAtEnd, DemandsChecked, IsCheckedAtEnd}
 use Rattle.wasp_session.specs.State.{MemoryIs, State}
 use Rattle.wasp_session.specs.Steps.{IsLost, IsTakenAt, IsWanting, IsWantingAt, line_asks}
 use Rattle.wasp_session.proofs.LearnSteps.{lost_none}
@@ -30,14 +30,14 @@ same_wanting line l s t work es fs is w = subst (λ (z : Line). IsWantingAt z s 
 
 -- a PLAN behind the flag
 pub plan_wanting : {X : Type 0} (s mid t : State) (work : X → Work) (es fs : List X) → mid ≡ record s { plans = s.plans + 1; refused = true } → t ≡ record mid { memory = t.memory }
-    → IsLost (IsTaken (body_of mid.deck)) (Demands (body_of mid.deck)) (body_of mid.deck) mid.memory t.memory work es fs → IsWantingAt lines.Plan s t work es fs
+    → IsLostOn mid.command mid.deck mid.memory t.memory work es fs → IsWantingAt lines.Plan s t work es fs
 plan_wanting s mid t work es fs of_mid of_t l =
     let flag : t.refused ≡ true = ap (λ (z : State). z.refused) of_t ∙ ap (λ (z : State). z.refused) of_mid in
     record {
       deck = ap (λ (z : State). z.deck) of_t ∙ ap (λ (z : State). z.deck) of_mid;
       command = ap (λ (z : State). z.command) of_t ∙ ap (λ (z : State). z.command) of_mid;
       refused = subst (λ (b : Bool). IsTrue b) (sym flag) refl;
-      lost = subst (λ (z : State). IsLost (IsTaken (body_of z.deck)) (Demands (body_of z.deck)) (body_of z.deck) z.memory t.memory work es fs) of_mid l;
+      lost = subst (λ (z : State). IsLostOn z.command z.deck z.memory t.memory work es fs) of_mid l;
     }
 
 -- at the ENDCHECK of an open CHECK

@@ -186,19 +186,29 @@ impl Session {
         ensures goes_on { GoesOn text.old text.new }
         ensures state { self.new ≡ record self.old { memory = self.new.memory } }
     {
-        let deck = &self.deck;
-        let memory = &mut self.memory;
-        let told = match self.command {
-            Command::Plan => plan_deck(self.alloc, rt, deck, memory, engines, text),
-            Command::Check => Ok(()),
-            Command::Search => search_deck(self.alloc, rt, deck, memory, engines, text),
-            Command::Best(plans) => {
-                rank_deck(self.alloc, rt, BestOf { deck, plans }, memory, engines, text)
+        // Each reading of the shelf tells the proof that it is one.
+        match self.command {
+            Command::Plan => {
+                let told = plan_deck(self.alloc, rt, &self.deck, &mut self.memory, engines, text);
+                let _shelf = self.memory.shelf();
+                told
             }
-        };
-        // Its reading tells the proof that the shelf is one.
-        let _shelf = self.memory.shelf();
-        told
+            Command::Check => Ok(()),
+            Command::Search => {
+                let told = search_deck(self.alloc, rt, &self.deck, &mut self.memory, engines, text);
+                let _shelf = self.memory.shelf();
+                told
+            }
+            Command::Best(plans) => {
+                let asked = BestOf {
+                    deck: &self.deck,
+                    plans,
+                };
+                let told = rank_deck(self.alloc, rt, asked, &mut self.memory, engines, text);
+                let _shelf = self.memory.shelf();
+                told
+            }
+        }
     }
 
     /// Tells what a PLAN line tells, behind its heading.
