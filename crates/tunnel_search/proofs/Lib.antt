@@ -1,2 +1,3 @@
 mod MovedTunnels
 mod WorkedRows
+mod Years

@@ -8,5 +8,7 @@
 #![tactic(auto)]
 
 mod moving;
+mod rounds;
 
 pub use moving::{is_inside, moved};
+pub use rounds::{are_inside, moved_tunnels};
