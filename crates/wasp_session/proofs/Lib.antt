@@ -6,6 +6,7 @@ mod CheckSteps
 mod DetailSteps
 pub mod FollowSteps
 mod GenerationSteps
+mod LearnOn
 mod LearnSteps
 mod LineSteps
 mod ListSteps
