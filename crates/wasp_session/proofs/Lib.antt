@@ -12,6 +12,7 @@ mod LineSteps
 mod ListSteps
 mod ListedKeys
 pub mod ModeLines
+mod OnePlan
 mod OnenessChecks
 mod OnenessKeys
 mod OnenessReports
@@ -22,6 +23,9 @@ mod PlanTold
 mod PrintSteps
 mod ReportSteps
 mod ResultSteps
+mod RoundAnswers
+mod RoundSteps
+mod SearchSteps
 mod SettleSteps
 mod ShelfSteps
 mod StudyOn

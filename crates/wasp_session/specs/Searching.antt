@@ -1,17 +1,18 @@
 -- What the steps of a search hand on. For proofs and inner contracts.
-use Rattle.std.specs.Prelude.{◌≡◌, ℕ, suc, ◌+◌, ◌<◌, ◌≤◌, ◌^◌, ◌++◌, List, length, Option, Some}
+use Rattle.std.specs.Prelude.{◌≡◌, ℕ, suc, ◌+◌, ◌-◌, ◌<◌, ◌≤◌, ◌^◌, ◌++◌, List, length, None, Some}
 use Rattle.std.specs.Prelude.{Vec}
 use Rattle.deck_check.specs.Readings.{Says}
+use Rattle.plan_program.specs.declared.solved.Outcome.{Outcome}
+use Rattle.plan_program.specs.declared.solved.Outcome.TheVariants as outcomes
 use Rattle.report_text.specs.Rounds.{round_line}
 use Rattle.report_text.specs.declared.rounds.Found.{Found}
 use Rattle.row_shelf.specs.Shelf.{Grows}
 use Rattle.sim_engine.specs.Engine.{Run}
 use Rattle.tunnel_configs.specs.Listed.{ListingsAreOne}
-use Rattle.wasp_session.specs.Listings.{AreTunnels, IsOverIn, Tunnels}
+use Rattle.wasp_session.specs.Listings.{AreTunnels, IsOverIn, Tunnels, deck_tunnels}
 use Rattle.wasp_session.specs.Rounds.{AreRounds, IsBarred, IsFound, IsSettled, RoundDemands, tunnels_behind}
 use Rattle.wasp_session.specs.State.{MemoryIs}
 use Rattle.wasp_session.specs.Studies.{IsSystemOf}
-use Rattle.wasp_session.specs.Told.{Told}
 use Rattle.wasp_session.specs.declared.rounds.RoundAnswer.{RoundAnswer}
 use Rattle.wasp_session.specs.declared.rounds.RoundAnswer.TheVariants as answers
 use Rattle.wasp_session.specs.declared.rounds.NextRound.{NextRound}
@@ -25,6 +26,11 @@ abbrev pub IsRoundAnswer : Says → ℕ → Tunnels → RoundAnswer → Type 0
 IsRoundAnswer d c tunnels (answers.Over r) = IsOverIn d c tunnels r
 IsRoundAnswer d c tunnels (answers.Barred year) = IsBarred d c tunnels year
 IsRoundAnswer d c tunnels (answers.Planned configs total) = IsFound d c (record { tunnels = tunnels; configs = configs; total = total })
+
+-- that of a solved case
+abbrev pub answer_of : Outcome → RoundAnswer
+answer_of (outcomes.Plan configs total) = answers.Planned configs total
+answer_of (outcomes.Infeasible year) = answers.Barred year
 
 -- ---- what is told of it
 
@@ -71,3 +77,10 @@ pub record CasesDemand (d : Says) (many : ℕ) (key : Run) : Type 0 where
   pub case : ℕ
   pub within : (1 ≤ case) × (case ≤ many)
   pub asked : RoundDemands d case 20 key
+
+-- what was told so far, behind which the rest from a round on gives what the whole gives
+pub record IsSoFar {Z : Type 0} (d : Says) (c rounds : ℕ) (r : NextRound) (said said_now : Vec ℕ Z) : Type 0 where
+  pub front : List ℕ
+  pub text : said_now.items ≡ said.items ++ front
+  pub gives : (rest : List ℕ) → AreRounds (20 - rounds) d c r.number r.tunnels.items r.last rest
+      → AreRounds 20 d c 1 (deck_tunnels d c) None (front ++ rest)

@@ -7,8 +7,8 @@ ghost use Rattle.wasp_session.specs.Inner.{GoesOn};
 ghost use Rattle.wasp_session.specs.Keys.{DemandsUnder};
 ghost use Rattle.wasp_session.specs.Listings.{AreTunnels, AreWithin};
 ghost use Rattle.wasp_session.specs.Rounds.{IsFound};
-ghost use Rattle.wasp_session.specs.Searching.{IsRoundAnswer, IsTurn};
-ghost use Rattle.wasp_session.specs.Steps.{GainsFew, HasPlaceFor, IsLost, Learns};
+ghost use Rattle.wasp_session.specs.Searching.{IsRoundAnswer, IsTurn, answer_of};
+ghost use Rattle.wasp_session.specs.Steps.{GainsFew, HasRoomFor, IsLost, Learns};
 
 use crate::answer::{CaseAnswer, CaseUnder, answer_under};
 use crate::memory::Memory;
@@ -37,7 +37,9 @@ pub(crate) enum RoundAnswer {
 }
 
 /// The answer of a solved case.
-fn answer_of(outcome: Outcome) -> RoundAnswer {
+fn answer_of(outcome: Outcome) -> RoundAnswer
+    ensures { result ≡ answer_of outcome }
+{
     match outcome {
         Outcome::Plan { configs, total } => RoundAnswer::Planned { configs, total },
         Outcome::Infeasible(year) => RoundAnswer::Barred(year),
@@ -58,7 +60,7 @@ pub(crate) fn solve_under<E: SimEngine, R: Threads + Sync>(
     requires low { 1 ≤ asked.case }
     requires high { asked.case ≤ says.cases (body_of asked.typed.now) }
     requires tunnels { AreTunnels (body_of asked.typed.now) asked.tunnels.now }
-    requires place { HasPlaceFor 15000 memory.old }
+    requires place { HasRoomFor 15000 memory.old }
     ensures answer { IfOk result (λ answer. IsRoundAnswer (body_of asked.entry.typed.now) asked.entry.case
         asked.entry.tunnels.now answer) }
     ensures learns { OnOk result (Learns (AreWithin (body_of asked.entry.typed.now) asked.entry.case

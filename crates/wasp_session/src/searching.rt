@@ -25,9 +25,6 @@ use std::thread::Threads;
 use tunnel_configs::listings_are_one;
 use wasp_fixed::OutOfMemory;
 
-/// The most rounds of a case.
-const MAX_ROUNDS: u64 = 20;
-
 /// Plans a case round by round, and tells of each round; its tunnels move in between.
 fn search_rounds<E: SimEngine, R: Threads + Sync>(
     alloc: Global,
@@ -60,7 +57,7 @@ fn search_rounds<E: SimEngine, R: Threads + Sync>(
         tunnels: own_tunnels(alloc, of.typed, of.case)?,
         last: None,
     };
-    for _k in 0..MAX_ROUNDS {
+    for k in 0..20u64 {
         // Its reading tells the proof that the shelf is one.
         let _shelf = memory.shelf();
         let asked = CaseUnder {
@@ -152,7 +149,6 @@ fn search_typed<E: SimEngine, R: Threads + Sync>(
 ) -> Result<(), OutOfMemory>
     requires some { 1 ≤ length engines.old }
     requires most { length engines.old ≤ 64 }
-    requires systems { length memory.old.shelf.book ≤ 1988 }
     requires place { HasPlaceFor 2400000 memory.old }
     ensures told { OnOk result (Tells (IsDeckSearched (body_of typed.now)) (HasNoFault (body_of typed.now))
         (SearchDemands (body_of typed.now)) (body_of typed.now) memory.old memory.new E.work engines.old engines.new
@@ -182,7 +178,6 @@ pub(crate) fn search_deck<E: SimEngine, R: Threads + Sync>(
 ) -> Result<(), OutOfMemory>
     requires some { 1 ≤ length engines.old }
     requires most { length engines.old ≤ 64 }
-    requires systems { length memory.old.shelf.book ≤ 1988 }
     requires place { HasPlaceFor 2400000 memory.old }
     ensures told { OnOk result (Tells (IsDeckSearched (body_of deck.now)) (HasNoFault (body_of deck.now))
         (SearchDemands (body_of deck.now)) (body_of deck.now) memory.old memory.new E.work engines.old engines.new
