@@ -1,12 +1,17 @@
 -- A search: what is told and learnt of the rounds of a case and of the cases of a deck, one behind the other.
-use Rattle.std.proofs.Common.{◌≡◌, ◌∙◌, ap, sym, refl, subst, ℕ, zero, suc, ◌+◌, ◌-◌, ◌*◌, ◌<◌, ◌≤◌, inl, inr, ⊎_elim, All, List, [], ◌++◌, Option, None, Some, add-one, append-nil, length, map, arith, append_assoc, length-append}
+use Rattle.std.proofs.Common.{◌≡◌, ◌∙◌, ap, sym, refl, subst, ℕ, zero, suc, ◌+◌, ◌-◌, ◌*◌, ◌<◌, ◌≤◌, inl, inr, ⊎_elim, All, List, [], ◌++◌, Option, None, Some, add-one, append-nil, length, map, arith, append_assoc, length-append, Result, OnErr, OnOk}
 use Rattle.std.specs.Prelude.{Vec}
 use Rattle.std.proofs.lemmas.Bool.{cases_lt}
 use Rattle.std.proofs.lemmas.List.Elements.{All-append, All-weaker}
-use Rattle.deck_check.specs.DeckFault.{HasNoFault}
+use Rattle.deck_check.specs.DeckFault.{HasNoFault, IsFaultOf}
 use Rattle.deck_check.specs.Readings.{Says, cases, greatest, years}
+use Rattle.deck_lines.specs.Deck.{body_of}
+use Rattle.deck_lines.specs.declared.statement.Statement.{Statement}
+use Rattle.deck_check.specs.declared.fault.DeckFault.{DeckFault}
 use Rattle.plant_data.specs.Tunnels.{IsTunnelOf}
+use Rattle.report_text.specs.Refusals.{refusal_line}
 use Rattle.report_text.specs.Rounds.{AreWide, IsWritable, case_line, found_text, round_line, rounds_line}
+use Rattle.report_text.specs.declared.refusals.Refusal.TheVariants.{Deck}
 use Rattle.report_text.specs.declared.rounds.Found.{Found}
 use Rattle.row_shelf.specs.Shelf.{Grows, IsShelf, ShelfIs}
 use Rattle.sim_engine.specs.Engine.{Run, Work}
@@ -267,3 +272,30 @@ deck_told d m n work es fs said now faultless told l = record {
   nos = refl;
   learns = deck_learns d m n work es fs faultless l;
 }
+
+-- a deck with a fault is not searched
+pub fault_told : {X Z : Type 0} (d : Says) (fault : DeckFault) (m : MemoryIs) (work : X → Work) (es : List X) (said now : Vec ℕ Z) → IsFaultOf d fault → (HasNoFault d → ⊥)
+    → now.items ≡ said.items ++ refusal_line (Deck fault) → Tells (IsDeckSearched d) (HasNoFault d) (SearchDemands d) d m m work es es said now 0
+fault_told d fault m work es said now is met text = record {
+  told = plain (refusal_line (Deck fault));
+  is_told = inl (record { fault = fault; is_of = is; is = refl });
+  text = text;
+  nos = refl;
+  learns = learns_none (HasNoFault d) (SearchDemands d) d m work es met (λ key a. met a.faultless);
+}
+
+-- the same deck, checked
+pub deck_told_as : {X Z T F : Type 0} (a b : List Statement) (res : Result T F) (m n : MemoryIs) (work : X → Work) (es fs : List X) (said now : Vec ℕ Z) → a ≡ b
+    → OnOk res (Tells (IsDeckSearched (body_of a)) (HasNoFault (body_of a)) (SearchDemands (body_of a)) (body_of a) m n work es fs said now 0)
+    → OnOk res (Tells (IsDeckSearched (body_of b)) (HasNoFault (body_of b)) (SearchDemands (body_of b)) (body_of b) m n work es fs said now 0)
+deck_told_as a b res m n work es fs said now same told =
+    subst (λ (z : List Statement). OnOk res (Tells (IsDeckSearched (body_of z)) (HasNoFault (body_of z)) (SearchDemands (body_of z)) (body_of z) m n work es fs said now 0)) same told
+
+pub deck_lost_as : {X T F : Type 0} (a b : List Statement) (res : Result T F) (m n : MemoryIs) (work : X → Work) (es fs : List X) → a ≡ b
+    → OnErr res (IsLost (HasNoFault (body_of a)) (SearchDemands (body_of a)) (body_of a) m n work es fs) → OnErr res (IsLost (HasNoFault (body_of b)) (SearchDemands (body_of b)) (body_of b) m n work es fs)
+deck_lost_as a b res m n work es fs same lost =
+    subst (λ (z : List Statement). OnErr res (IsLost (HasNoFault (body_of z)) (SearchDemands (body_of z)) (body_of z) m n work es fs)) same lost
+
+pub few_told : {X : Type 0} (A : Run → Type 0) (d : Says) (m n : MemoryIs) (work : X → Work) (es fs : List X) → years d ≤ 30 → IsShelf n.shelf → length n.shelf.kept ≤ length m.shelf.kept + 2400000
+    → Learns (Unit {0}) A d m n work es fs 0 → GainsFew 2400000 m n
+few_told A d m n work es fs most shelf few learns = record { systems = few_years d m.shelf n.shelf shelf most learns.gains.grown; rows = few }
