@@ -128,7 +128,9 @@ fn tell_planned(
     ensures goes_on { GoesOn text.old text.new }
 {
     let NextRound {
-        number, tunnels, ..
+        number,
+        tunnels,
+        ..
     } = round;
     write_round(number, total, text)?;
     let inside = are_inside(of.greatest, &tunnels, configs.as_slice());
