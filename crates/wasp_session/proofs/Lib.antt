@@ -7,6 +7,7 @@ mod CheckSteps
 mod DetailSteps
 pub mod FollowSteps
 mod GenerationSteps
+mod LearnOn
 mod LearnSteps
 mod LearnThen
 mod LineSteps
@@ -14,6 +15,7 @@ mod ListSteps
 mod ListedKeys
 pub mod ModeLines
 mod OneOutcome
+mod OnePlan
 mod OnenessCases
 mod OnenessChecks
 mod OnenessKeys
@@ -27,6 +29,9 @@ mod PrintSteps
 mod RankSteps
 mod ReportSteps
 mod ResultSteps
+mod RoundAnswers
+mod RoundSteps
+mod SearchSteps
 mod SettleSteps
 mod ShelfSteps
 mod SolveSteps
