@@ -21,6 +21,7 @@ mod OnenessChecks
 mod OnenessKeys
 mod OnenessRanks
 mod OnenessReports
+mod OnenessRounds
 mod OnenessTellings
 mod OverSteps
 mod PlanSteps
