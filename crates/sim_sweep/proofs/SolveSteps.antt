@@ -1,5 +1,5 @@
 -- Cases that wait, and what solves them.
-use Rattle.std.proofs.Common.{◌≡◌, ℕ, suc, ◌+◌, ◌<◌, List, [], ◌∷◌, length, map, get_or, ap, sym, subst, refl, ◌∙◌, arith}
+use Rattle.std.proofs.Common.{◌≡◌, ℕ, suc, ◌<◌, List, [], ◌∷◌, length, map, get_or, ap, sym, subst, refl, ◌∙◌, arith}
 use Rattle.cost_terms.specs.Table.{Table}
 use Rattle.sim_sweep.specs.Cases.{Done}
 use Rattle.sim_sweep.specs.Solves.{Solves}

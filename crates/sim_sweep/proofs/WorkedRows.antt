@@ -1,5 +1,5 @@
 -- Counts by their index, and shares of engines, at worked rows.
-use Rattle.std.proofs.Common.{◌≡◌, ℕ, List, [], ◌∷◌, None, refl}
+use Rattle.std.proofs.Common.{◌≡◌, ℕ, [], ◌∷◌, None, refl}
 use Rattle.sim_engine.specs.Engine.{Work}
 use Rattle.sim_sweep.specs.Due.{counts_at}
 use Rattle.sim_sweep.specs.Works.{simulated_by}

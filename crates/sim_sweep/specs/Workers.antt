@@ -1,6 +1,6 @@
 -- What workers do, each with a seat and an engine of its own: each code that a worker got is simulated by its engine,
 -- and nothing else. This program's own.
-use Rattle.std.specs.Prelude.{◌≡◌, ℕ, ◌+◌, ◌-◌, ◌^◌, ◌<◌, ◌≤◌, All, List, [], ◌∷◌, ◌++◌, length, map, None, Some, slice_get}
+use Rattle.std.specs.Prelude.{◌≡◌, ℕ, ◌≤◌, All, List, [], ◌∷◌, ◌++◌, length, map, None, Some, slice_get}
 use Rattle.board_core.specs.Lists.{IsIn, times}
 use Rattle.sim_board.specs.Seats.{BoardIs, SeatIs, SeatOf}
 use Rattle.plant_data.specs.Rows.{IsRow}

@@ -1,4 +1,4 @@
-use Rattle.std.proofs.Common.{◌≡◌, ℕ, ◌+◌, List, length, map, sym, ap, subst, arith}
+use Rattle.std.proofs.Common.{List, length, map, sym, ap, subst, arith}
 use Rattle.board_core.specs.Rows.{codes_of}
 use Rattle.sim_sweep.specs.Workers.{EngineIs, SweepsAll}
 use Rattle.sim_sweep.proofs.KeepSteps.{rise_once, rows_moved}
