@@ -1,5 +1,5 @@
 -- The tables of a deck's cases, in their order.
-use Rattle.std.proofs.Common.{◌≡◌, ◌∙◌, ap, sym, subst, ℕ, ◌+◌, ◌<◌, List, [], ◌∷◌, ◌++◌, length, map, get_or, arith}
+use Rattle.std.proofs.Common.{◌≡◌, subst, ℕ, ◌+◌, ◌<◌, List, [], ◌∷◌, ◌++◌, length, map, get_or, arith}
 use Rattle.std.specs.List.{remove}
 use Rattle.cost_terms.specs.CostData.{greatest as candidate_counts}
 use Rattle.cost_terms.specs.Table.{Table}

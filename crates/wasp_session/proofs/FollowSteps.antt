@@ -1,5 +1,5 @@
 -- A session goes on by a line: it follows the lines with this one behind, and has the keys that the line demands.
-use Rattle.std.proofs.Common.{◌≡◌, ◌≢◌, ◌≤◌, ◌∙◌, ap, sym, refl, subst, ℕ, suc, ◌+◌, ◌⊎◌, inl, inr, ⊎_elim, true≢false, is_some, List, [], ◌∷◌, ◌++◌, length, map, reverse, Option, None, Some, slice_get, AllPairs, All, Contains, arith, append_assoc}
+use Rattle.std.proofs.Common.{◌≡◌, ◌≢◌, ◌∙◌, ap, sym, refl, subst, ℕ, suc, ◌+◌, ◌⊎◌, inl, inr, ⊎_elim, true≢false, is_some, List, [], ◌∷◌, ◌++◌, length, map, reverse, Option, Some, slice_get, AllPairs, All, Contains, arith, append_assoc}
 use Rattle.std.specs.Prelude.{Vec, fold}
 use Rattle.std.proofs.lemmas.List.{append-nil, length-append, reverse-append}
 use Rattle.std.proofs.lemmas.List.Elements.{All-append, All-contains_itself, All-weaker, Contains-append_cases, Contains-append_left, Contains-append_right}
@@ -10,7 +10,6 @@ use Rattle.deck_lines.specs.Deck.{body_of, changed, deck_at}
 use Rattle.deck_lines.specs.declared.line.CertLine.{CertLine}
 use Rattle.deck_lines.specs.declared.line.Line.{Line}
 use Rattle.deck_lines.specs.declared.line.Line.TheVariants as lines
-use Rattle.deck_lines.specs.declared.line.Mode.TheVariants as modes
 use Rattle.deck_lines.specs.declared.statement.Statement.{Statement}
 use Rattle.deck_lines.proofs.Placed.{decks_follow}
 use Rattle.report_text.specs.Lines.{keys_line}
@@ -20,9 +19,9 @@ use Rattle.sim_engine.specs.Engine.{Run, Work, raised}
 use Rattle.sim_sweep.specs.Works.{HaveWorked}
 use Rattle.wasp_session.specs.Checks.{Open, check_count, looking_back, open_at, open_behind, with_line}
 use Rattle.wasp_session.specs.Follows.{Follows}
-use Rattle.wasp_session.specs.Keys.{Demands, DemandsAtEnd}
-use Rattle.wasp_session.specs.Modes.{IsOfMode, check_mode, mode_of}
-use Rattle.wasp_session.specs.Said.{IsCheckTold, IsPlanTold}
+use Rattle.wasp_session.specs.Keys.{DemandsAtEnd}
+use Rattle.wasp_session.specs.Modes.{IsOfMode, mode_of}
+use Rattle.wasp_session.specs.Said.{IsCheckTold}
 use Rattle.wasp_session.specs.State.{State, begun}
 use Rattle.wasp_session.specs.Steps.{DoesLine, IsTakenAt, line_asks, line_told}
 use Rattle.wasp_session.specs.Tasks.{AreKeys, AskAfter, AsksBehind, IsLineTold, Task, plan_count, task_of}

@@ -1,5 +1,5 @@
 -- Two calls that learn, one after the other, on one deck.
-use Rattle.std.proofs.Common.{◌≡◌, ◌∙◌, ◌≢◌, ap, sym, subst, inl, inr, ⊎_elim, ℕ, suc, ◌+◌, ◌-◌, ◌<◌, ◌≤◌, ◌⊎◌, refl, All, AllPairs, Contains, List, [], ◌∷◌, ◌++◌, length, map, get_or, arith, append_assoc, length-append}
+use Rattle.std.proofs.Common.{◌∙◌, ◌≢◌, ap, sym, subst, inl, inr, ⊎_elim, ℕ, suc, ◌+◌, ◌-◌, ◌<◌, ◌≤◌, ◌⊎◌, refl, AllPairs, Contains, List, [], ◌∷◌, ◌++◌, length, map, arith, append_assoc, length-append}
 use Rattle.std.specs.List.{range_with_len}
 use Rattle.std.proofs.lemmas.List.Elements.{All-append, All-contains, All-contains_itself, All-weaker, Contains-append_cases, Contains-append_left, Contains-append_right}
 use Rattle.std.proofs.lemmas.List.FromFn.{get_or-map-range_with_len, length-map-range_with_len}
@@ -7,10 +7,9 @@ use Rattle.std.proofs.lemmas.List.Kept.{AllPairs-cons}
 use Rattle.checked_deck.specs.Systems.{system}
 use Rattle.deck_check.specs.Readings.{Says, years}
 use Rattle.row_shelf.specs.Adds.{Adds}
-use Rattle.row_shelf.specs.Shelf.{Grows, Holds, IsShelf, ShelfIs}
+use Rattle.row_shelf.specs.Shelf.{Grows, IsShelf, ShelfIs}
 use Rattle.sim_engine.specs.Engine.{Run, Work, raised}
 use Rattle.sim_engine.proofs.CountSteps.{raised_then}
-use Rattle.sim_sweep.specs.Works.{HaveWorked}
 use Rattle.sim_sweep.proofs.TogetherSteps.{together_then}
 use Rattle.wasp_session.proofs.ApartSteps.{apart_behind, no_longer}
 use Rattle.wasp_session.specs.State.{MemoryIs}

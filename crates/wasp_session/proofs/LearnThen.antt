@@ -1,5 +1,5 @@
 -- Calls that learn, one after the other: what they learn together, and how few systems of one deck's years come.
-use Rattle.std.proofs.Common.{◌≡◌, ◌≢◌, ◌∙◌, ap, sym, refl, subst, ℕ, zero, suc, ◌+◌, ◌-◌, ◌<◌, ◌≤◌, ◌⊎◌, inl, inr, ⊎_elim, List, [], ◌∷◌, ◌++◌, All, AllPairs, Contains, length, get_or, map, append_assoc, arith}
+use Rattle.std.proofs.Common.{◌≡◌, ◌≢◌, ◌∙◌, ap, sym, refl, subst, ℕ, zero, suc, ◌+◌, ◌-◌, ◌<◌, ◌≤◌, ◌⊎◌, inl, inr, ⊎_elim, List, [], ◌∷◌, ◌++◌, AllPairs, Contains, length, get_or, map, append_assoc, arith}
 use Rattle.std.specs.List.{range_with_len}
 use Rattle.std.proofs.lemmas.List.{get_or_default, length-append}
 use Rattle.std.proofs.lemmas.List.Elements.{All-append, All-contains, Contains-append_cases, Contains-append_left, Contains-append_right}
@@ -7,14 +7,13 @@ use Rattle.std.proofs.lemmas.List.FromFn.{get_or-map-range_with_len, length-map-
 use Rattle.checked_deck.specs.Systems.{system}
 use Rattle.deck_check.specs.Readings.{Says, years}
 use Rattle.row_shelf.specs.Adds.{Adds}
-use Rattle.row_shelf.specs.Shelf.{Grows, Holds, IsShelf, ShelfIs}
+use Rattle.row_shelf.specs.Shelf.{IsShelf, ShelfIs}
 use Rattle.sim_engine.proofs.CountSteps.{raised_then}
 use Rattle.sim_engine.specs.Engine.{Run, Work, raised}
 use Rattle.sim_sweep.proofs.TogetherSteps.{together_then}
 use Rattle.wasp_session.proofs.ApartSteps.{apart_behind, no_longer}
-use Rattle.wasp_session.proofs.LearnSteps.{lost_of}
 use Rattle.wasp_session.specs.State.{MemoryIs}
-use Rattle.wasp_session.specs.Steps.{GainsFew, HaveGone, IsLost, Learns, OnlyGains}
+use Rattle.wasp_session.specs.Steps.{GainsFew, IsLost, Learns, OnlyGains}
 use Rattle.wasp_session.specs.Studies.{IsSystemOf}
 use Rattle.year_system.specs.System.{System}
 

@@ -16,7 +16,7 @@ use Rattle.wasp_session.specs.Inner.{TellsPlan}
 use Rattle.wasp_session.specs.Keys.{DemandsAtEnd, DemandsChecked, IsCheckedAtEnd}
 use Rattle.wasp_session.specs.Said.{IsCheckTold}
 use Rattle.wasp_session.specs.State.{MemoryIs, State, behind}
-use Rattle.wasp_session.specs.Steps.{Does, DoesLine, IsTakenAt, Learns, Tells, line_asks, line_told}
+use Rattle.wasp_session.specs.Steps.{Does, DoesLine, IsTakenAt, Learns, line_asks, line_told}
 use Rattle.wasp_session.specs.Told.{Told, nothing, plain}
 use Rattle.wasp_session.proofs.LearnSteps.{learns_none}
 

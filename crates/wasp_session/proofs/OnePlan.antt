@@ -1,5 +1,5 @@
 -- A case has one chosen plan or one first infeasible year.
-use Rattle.std.proofs.Common.{◌≡◌, ◌≢◌, ℕ, ◌+◌, ◌<◌, ◌≤◌, List, length, get_or, take, reverse, sym, ap, ◌∙◌, arith, refl, true≢false, ⊎_elim, inl, inr}
+use Rattle.std.proofs.Common.{◌≡◌, ◌≢◌, ℕ, ◌+◌, ◌<◌, ◌≤◌, List, length, take, reverse, sym, ap, ◌∙◌, arith, refl, true≢false, ⊎_elim, inl, inr}
 use Rattle.std.proofs.lemmas.Bool.{cases_eq, cases_lt}
 use Rattle.std.proofs.lemmas.Cmp.{lists_total, nat_list_cmp_total}
 use Rattle.std.proofs.lemmas.List.{get_or-take, length-take-le, reverse-reverse}

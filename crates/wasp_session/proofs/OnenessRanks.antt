@@ -1,15 +1,13 @@
 -- What is told of the best plans is one.
-use Rattle.std.proofs.Common.{◌≡◌, ◌∙◌, ap, sym, subst, ℕ, zero, suc, inl, inr, List}
+use Rattle.std.proofs.Common.{◌≡◌, ◌∙◌, ap, sym, subst, ℕ, zero, suc, inl, inr}
 use Rattle.best_plans.proofs.OneRanking.{one_ranking}
 use Rattle.best_plans.specs.Best.{IsRanking}
-use Rattle.best_plans.specs.declared.ranked.Ranked.{Ranked}
 use Rattle.cost_terms.specs.Table.{Table}
 use Rattle.deck_check.proofs.Single.{met, single}
 use Rattle.deck_check.specs.Readings.{Says, cases}
 use Rattle.deck_check.specs.declared.fault.DeckFault.{DeckFault}
 use Rattle.wasp_session.proofs.OneOutcome.{one_outcome}
 use Rattle.plan_program.specs.Chosen.{IsOutcome}
-use Rattle.plan_program.specs.declared.solved.Outcome.{Outcome}
 use Rattle.report_text.specs.Ranking.{best_heading, over_text, ranking_text}
 use Rattle.report_text.specs.Refusals.{refusal_line}
 use Rattle.report_text.specs.declared.refusals.Refusal.{Refusal}

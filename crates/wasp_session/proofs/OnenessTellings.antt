@@ -24,7 +24,7 @@ use Rattle.wasp_session.specs.Listings.{deck_tunnels}
 use Rattle.wasp_session.specs.Oneness.{TellingOfAFront, TellingsAreOne}
 use Rattle.wasp_session.specs.Said.{AreCasesTold, IsCaseTold, IsCheckTold, IsDeckTold}
 use Rattle.wasp_session.specs.Tasks.{AreToldAfter, IsEndTold, IsLineTold, Task, plan_count, task_of}
-use Rattle.wasp_session.specs.Told.{AreJoined, Told, joined, nothing, plain}
+use Rattle.wasp_session.specs.Told.{Told, joined, nothing, plain}
 use Rattle.wasp_session.specs.declared.command.Command.{Command}
 use Rattle.wasp_session.specs.declared.command.Command.TheVariants as commands
 

@@ -11,7 +11,7 @@ use Rattle.report_text.specs.Rounds.{search_heading}
 use Rattle.report_text.specs.Refusals.{refusal_line}
 use Rattle.report_text.specs.declared.refusals.Refusal.{Refusal}
 use Rattle.sim_engine.specs.Engine.{Run, Work}
-use Rattle.wasp_session.specs.Inner.{GoesOn, HaveDetailed, IsLostOn, IsOfLists, TellsByFirst, TellsDeck, TellsPlan}
+use Rattle.wasp_session.specs.Inner.{GoesOn, HaveDetailed, IsOfLists, TellsByFirst, TellsDeck, TellsPlan}
 use Rattle.wasp_session.specs.Keys.{Demands}
 use Rattle.wasp_session.specs.Listings.{IsRefusalOf, IsTaken}
 use Rattle.wasp_session.specs.Modes.{HasPlans}

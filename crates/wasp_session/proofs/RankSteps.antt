@@ -1,5 +1,5 @@
 -- What is told of the best plans of cases, and what is learnt for them, one case after the other.
-use Rattle.std.proofs.Common.{◌≡◌, ◌∙◌, ap, sym, refl, subst, ℕ, zero, suc, ◌+◌, ◌*◌, ◌<◌, ◌≤◌, ◌⊎◌, inl, inr, ⊎_elim, List, [], ◌∷◌, ◌++◌, length, map, add-one, append-nil, append_assoc, arith}
+use Rattle.std.proofs.Common.{◌≡◌, ◌∙◌, ap, sym, refl, subst, ℕ, ◌+◌, ◌*◌, ◌<◌, ◌≤◌, ◌⊎◌, inl, inr, ⊎_elim, List, [], ◌∷◌, ◌++◌, length, add-one, append-nil, append_assoc, arith}
 use Rattle.std.proofs.lemmas.Bool.{cases_lt}
 use Rattle.std.specs.Prelude.{Vec}
 use Rattle.best_plans.specs.Best.{FirstIsChosen, IsRanking}
@@ -17,13 +17,13 @@ use Rattle.report_text.specs.declared.refusals.Refusal.{Refusal}
 use Rattle.report_text.specs.declared.refusals.Refusal.TheVariants.{Deck}
 use Rattle.row_shelf.specs.Shelf.{IsShelf}
 use Rattle.sim_engine.specs.Engine.{Run, Work}
-use Rattle.wasp_session.specs.Inner.{GoesOn, HasTable}
+use Rattle.wasp_session.specs.Inner.{HasTable}
 use Rattle.wasp_session.specs.Keys.{DemandsUnder}
 use Rattle.wasp_session.specs.Listings.{AreWithin, IsOverIn, deck_tunnels}
 use Rattle.wasp_session.specs.Ranks.{AreCasesRanked, AsksUpTo, BestDemands, IsCaseRanked, IsDeckRanked, TellsPlain}
 use Rattle.wasp_session.specs.State.{MemoryIs}
 use Rattle.wasp_session.specs.Steps.{GainsFew, HasPlaceFor, HasRoomFor, IsLost, Learns, Tells}
-use Rattle.wasp_session.specs.Told.{joined, nothing, plain}
+use Rattle.wasp_session.specs.Told.{plain}
 use Rattle.wasp_session.proofs.LearnSteps.{learns_none}
 use Rattle.wasp_session.proofs.LearnThen.{few_both, learns_both, lost_both}
 use Rattle.wasp_session.proofs.TellBehind.{learns_by, lost_by}

@@ -1,5 +1,5 @@
 -- The answer of a solved case under tunnels.
-use Rattle.std.proofs.Common.{◌≡◌, ◌∙◌, ap, sym, subst, ℕ}
+use Rattle.std.proofs.Common.{◌≡◌, sym, subst, ℕ}
 use Rattle.cost_terms.specs.Table.{Table}
 use Rattle.deck_check.specs.Readings.{Says}
 use Rattle.plan_program.specs.Chosen.{IsOutcome}

@@ -1,7 +1,6 @@
 -- The rounds of a search: what one tells, and what comes behind it.
-use Rattle.std.proofs.Common.{◌≡◌, ◌∙◌, ap, sym, refl, subst, ℕ, zero, suc, ◌+◌, ◌-◌, ◌<◌, ◌≤◌, inl, inr, ⊎_elim, All, Contains, List, [], ◌∷◌, ◌++◌, Option, Some, length, map, get_or, slice_index_or, arith, append_assoc}
+use Rattle.std.proofs.Common.{◌≡◌, ◌∙◌, ap, sym, refl, subst, ℕ, zero, suc, ◌+◌, ◌-◌, ◌<◌, inl, inr, ⊎_elim, All, Contains, List, [], ◌++◌, Some, length, map, get_or, slice_index_or, arith, append_assoc}
 use Rattle.std.specs.Prelude.{Vec}
-use Rattle.std.specs.List.{range_with_len}
 use Rattle.std.proofs.lemmas.Bool.{cases_lt}
 use Rattle.std.proofs.lemmas.List.Elements.{All-contains_itself, All-filter, All-map}
 use Rattle.std.proofs.lemmas.List.FromFn.{length-map-range_with_len}

@@ -1,5 +1,5 @@
 -- A search: what is told and learnt of the rounds of a case and of the cases of a deck, one behind the other.
-use Rattle.std.proofs.Common.{◌≡◌, ◌∙◌, ap, sym, refl, subst, ℕ, zero, suc, ◌+◌, ◌-◌, ◌*◌, ◌<◌, ◌≤◌, inl, inr, ⊎_elim, All, List, [], ◌++◌, Option, None, Some, add-one, append-nil, length, map, arith, append_assoc, length-append, Result, OnErr, OnOk}
+use Rattle.std.proofs.Common.{◌≡◌, ◌∙◌, ap, sym, refl, subst, ℕ, suc, ◌+◌, ◌-◌, ◌<◌, ◌≤◌, inl, inr, ⊎_elim, List, [], ◌++◌, Option, None, Some, add-one, append-nil, length, arith, append_assoc, Result, OnErr, OnOk}
 use Rattle.std.specs.Prelude.{Vec}
 use Rattle.std.proofs.lemmas.Bool.{cases_lt}
 use Rattle.std.proofs.lemmas.List.Elements.{All-append, All-weaker}
@@ -23,7 +23,7 @@ use Rattle.wasp_session.specs.Searching.{CasesDemand, GoesRound, HasRoundsFor, I
 use Rattle.wasp_session.specs.State.{MemoryIs}
 use Rattle.wasp_session.specs.Steps.{GainsFew, HasPlaceFor, HasRoomFor, IsLost, Learns, OnlyGains, Tells}
 use Rattle.wasp_session.specs.Studies.{IsSystemOf}
-use Rattle.wasp_session.specs.Told.{AreJoined, Told, joined, nothing, plain}
+use Rattle.wasp_session.specs.Told.{plain}
 use Rattle.wasp_session.specs.declared.rounds.NextRound.{NextRound}
 use Rattle.wasp_session.proofs.LearnOn.{Either, few_years, learns_on, lost_on}
 use Rattle.wasp_session.proofs.LearnSteps.{learns_none, lost_of}

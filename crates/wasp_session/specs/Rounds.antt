@@ -1,7 +1,7 @@
 -- What `search` tells of a PLAN line: each case is planned round by round, its tunnels moved in between, until no chosen
 -- configuration stands at an edge that may be moved, a round is refused or infeasible, or 20 rounds are done. This
 -- program's own.
-use Rattle.std.specs.Prelude.{◌≡◌, ℕ, zero, suc, ◌+◌, ◌-◌, ◌<◌, ◌≤◌, ◌⊎◌, ◌++◌, List, [], ◌∷◌, Option, None, Some, map, slice_index_or}
+use Rattle.std.specs.Prelude.{◌≡◌, ℕ, zero, suc, ◌+◌, ◌<◌, ◌≤◌, ◌⊎◌, ◌++◌, List, Option, None, Some}
 use Rattle.cost_terms.specs.Table.{Table}
 use Rattle.deck_check.specs.DeckFault.{HasNoFault}
 use Rattle.deck_check.specs.Readings.{Says, cases, greatest}

@@ -29,11 +29,7 @@ use tunnel_configs::listings_are_one;
 use wasp_fixed::OutOfMemory;
 
 /// The table of each case of a deck under the deck's own tunnels, in their order.
-fn tables_of(
-    alloc: Global,
-    plan: &DeckStudy,
-    shelf: &Shelf,
-) -> Result<Vec<CaseTable>, OutOfMemory>
+fn tables_of(alloc: Global, plan: &DeckStudy, shelf: &Shelf) -> Result<Vec<CaseTable>, OutOfMemory>
     requires on { IsDeckOn shelf.now plan.now }
     ensures many { IfOk result (λ tables. length tables.items ≡ length plan.now.cases) }
     ensures tables { IfOk result (λ tables. AreTablesFrom (body_of plan.now.deck) 1 tables.items) }

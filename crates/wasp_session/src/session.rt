@@ -492,14 +492,7 @@ impl Session {
             return Err(OutOfMemory);
         }
         self.refused = true;
-        let solved = solve_deck(
-            self.alloc,
-            rt,
-            &self.deck,
-            case,
-            &mut self.memory,
-            engines,
-        );
+        let solved = solve_deck(self.alloc, rt, &self.deck, case, &mut self.memory, engines);
         // Its reading tells the proof that the shelf is one.
         let _shelf = self.memory.shelf();
         let done = solved?;

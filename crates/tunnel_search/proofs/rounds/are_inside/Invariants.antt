@@ -1,4 +1,4 @@
-use Rattle.std.proofs.Common.{◌≡◌, ℕ, ◌<◌}
+use Rattle.std.proofs.Common.{ℕ, ◌<◌}
 use Rattle.tunnel_search.specs.Search.{IsInside, config_of, tunnel_of}
 use Rattle.tunnel_search.proofs.rounds.are_inside.Given as goal
 

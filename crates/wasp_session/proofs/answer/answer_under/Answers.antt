@@ -1,8 +1,7 @@
 use Rattle.std.proofs.Common.{◌∙◌, ap, sym, subst, ℕ, List, Err}
 use Rattle.deck_lines.specs.Deck.{body_of}
-use Rattle.wasp_session.specs.Case.{IsTableOf}
 use Rattle.wasp_session.specs.Keys.{DemandsUnder}
-use Rattle.wasp_session.specs.Listings.{AreTunnels, AreWithin, Tunnels, deck_tunnels}
+use Rattle.wasp_session.specs.Listings.{AreWithin}
 use Rattle.wasp_session.specs.Studies.{AreYearLists, HasYears}
 use Rattle.wasp_session.proofs.CheckSteps.{case_learns, case_lost, over_learns}
 use Rattle.wasp_session.proofs.LearnSteps.{lost_none, lost_of}

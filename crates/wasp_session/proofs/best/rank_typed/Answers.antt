@@ -1,8 +1,8 @@
-use Rattle.std.proofs.Common.{◌≡◌, ◌+◌, ◌≤◌, refl, arith}
+use Rattle.std.proofs.Common.{◌≡◌, ◌≤◌, refl, arith}
 use Rattle.deck_check.specs.Readings.{cases, years}
 use Rattle.deck_lines.specs.Deck.{body_of}
 use Rattle.wasp_session.proofs.CaseTellings.{on_none, on_then}
-use Rattle.wasp_session.proofs.RankSteps.{deck_ranked, few_all, few_more, few_none, learns_more, lost_more, none_asked, none_ranked, ranked_more, room_for}
+use Rattle.wasp_session.proofs.RankSteps.{deck_ranked, few_more, few_none, learns_more, lost_more, none_asked, none_ranked, ranked_more}
 use Rattle.wasp_session.proofs.WhereErr.{on_err}
 use Rattle.wasp_session.proofs.best.rank_typed.Goals as goal
 

@@ -1,4 +1,4 @@
-use Rattle.std.proofs.Common.{arith, ◌≡◌, ◌∙◌, ◌+◌, ◌<◌, ap, sym, subst, ℕ, List, [], ◌∷◌, ◌++◌, length, refl}
+use Rattle.std.proofs.Common.{arith, ◌≡◌, ◌∙◌, ◌+◌, ◌<◌, ap, sym, subst, ℕ, List, [], ◌∷◌, length, refl}
 use Rattle.std.proofs.lemmas.List.{length-append}
 use Rattle.cost_terms.specs.Table.{Table}
 use Rattle.deck_lines.specs.Deck.{body_of}

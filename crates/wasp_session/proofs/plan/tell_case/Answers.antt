@@ -1,4 +1,4 @@
-use Rattle.std.proofs.Common.{sym, subst, [], ◌∷◌}
+use Rattle.std.proofs.Common.{sym, subst}
 use Rattle.wasp_session.specs.Case.{IsTableOf}
 use Rattle.wasp_session.specs.Listings.{Tunnels}
 use Rattle.std.proofs.lemmas.Result.{on_ok_weaker}

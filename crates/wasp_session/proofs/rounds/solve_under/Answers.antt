@@ -1,4 +1,4 @@
-use Rattle.std.proofs.Common.{ap, sym, ◌∙◌}
+use Rattle.std.proofs.Common.{ap}
 use Rattle.deck_lines.specs.Deck.{body_of}
 use Rattle.plan_program.specs.declared.solved.Solved.{Solved}
 use Rattle.wasp_session.proofs.RoundAnswers.{answer_is}

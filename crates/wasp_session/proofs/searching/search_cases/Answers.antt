@@ -1,4 +1,4 @@
-use Rattle.std.proofs.Common.{◌≡◌, ◌+◌, ◌<◌, refl, subst, arith}
+use Rattle.std.proofs.Common.{◌≡◌, refl, subst, arith}
 use Rattle.deck_check.specs.Readings.{cases}
 use Rattle.deck_lines.specs.Deck.{body_of}
 use Rattle.wasp_session.specs.Searching.{CasesDemand}

@@ -1,5 +1,5 @@
 use Rattle.std.proofs.Common.{◌∙◌, ap, ◌++◌, Err}
-use Rattle.std.proofs.lemmas.Result.{on_err_weaker, on_ok_weaker}
+use Rattle.std.proofs.lemmas.Result.{on_ok_weaker}
 use Rattle.deck_check.specs.DeckFault.{HasNoFault}
 use Rattle.deck_check.specs.declared.fault.DeckFault.{DeckFault}
 use Rattle.deck_lines.specs.Deck.{body_of}

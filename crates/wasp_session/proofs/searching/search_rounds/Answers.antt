@@ -1,8 +1,7 @@
-use Rattle.std.proofs.Common.{◌≡◌, ◌+◌, ◌<◌, ◌≤◌, refl, arith}
+use Rattle.std.proofs.Common.{◌+◌, refl, arith}
 use Rattle.std.proofs.lemmas.Result.{on_ok_weaker}
 use Rattle.deck_lines.specs.Deck.{body_of}
 use Rattle.wasp_session.specs.Rounds.{RoundDemands}
-use Rattle.wasp_session.proofs.LearnSteps.{lost_none}
 use Rattle.wasp_session.proofs.CaseTellings.{on_none, on_then, on_written}
 use Rattle.wasp_session.proofs.SearchSteps.{room_at, round_lost, round_more, rounds_all, rounds_last, rounds_lost, rounds_none, so_end, so_first, so_last, so_next, under_next, writable_next}
 use Rattle.wasp_session.proofs.WhereErr.{on_err}

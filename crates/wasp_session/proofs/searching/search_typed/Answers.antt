@@ -1,4 +1,4 @@
-use Rattle.std.proofs.lemmas.Result.{on_err_weaker, on_ok_weaker}
+use Rattle.std.proofs.lemmas.Result.{on_err_weaker}
 use Rattle.std.proofs.Common.{arith}
 use Rattle.row_shelf.proofs.FillSteps.{on_ok2}
 use Rattle.deck_lines.specs.Deck.{body_of}

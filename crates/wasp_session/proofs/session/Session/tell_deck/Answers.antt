@@ -1,4 +1,4 @@
-use Rattle.std.proofs.Common.{sym, subst, List}
+use Rattle.std.proofs.Common.{sym, subst}
 use Rattle.std.specs.Prelude.{OnErr, OnOk}
 use Rattle.wasp_session.specs.Inner.{IsLostOn, TellsDeck}
 use Rattle.wasp_session.specs.State.{State}
