@@ -14,7 +14,12 @@ use Rattle.tunnel_configs.specs.Listed.{ListingsFit, box_size}
 use Rattle.checked_deck.specs.Systems.{system}
 use Rattle.checked_deck.specs.TypedDeck.{margin}
 use Rattle.wasp_session.specs.Listings.{IsOver, IsOverIn, deck_tunnels, tunnel_at}
+use Rattle.deck_lines.specs.Deck.{body_of}
+use Rattle.deck_maker.specs.TrialDeck.{trial}
 use Rattle.wasp_session.specs.Solving.{IsSolvable}
+use Rattle.wasp_session.specs.State.{State, begun}
+use Rattle.wasp_session.specs.Steps.{HasPlaceFor}
+use Rattle.wasp_session.specs.declared.command.Command.TheVariants as commands
 use Rattle.year_system.specs.System.{size}
 use Rattle.wasp4.specs.Trial.{IsTrial, trial_says}
 use Rattle.wasp4.specs.declared.trial.TrialNumbers.{TrialNumbers}
@@ -75,3 +80,16 @@ trial_solvable faultless one_case fit t is =
       high = omega (arith, one.cases);
       fair = none_over fit (trial_says t) t.years one;
     }
+
+-- ---- of a session that begins with the deck
+
+abbrev pub begins_with : TrialNumbers → State
+begins_with t = begun commands.Plan (trial t.seed t.years t.candidates)
+
+pub begun_solvable : TrialsHaveNoFault → TrialsHaveOneCase → ListingsFit → (t : TrialNumbers) (s : State) → IsTrial t → s ≡ begins_with t → IsSolvable (body_of s.deck) 1
+begun_solvable faultless one_case fit t s is begins =
+    subst (λ (z : State). IsSolvable (body_of z.deck) 1) (sym begins) (trial_solvable faultless one_case fit t is)
+
+pub begun_placed : (t : TrialNumbers) (s : State) → s ≡ begins_with t → HasPlaceFor 15000 s.memory
+begun_placed t s begins =
+    subst (λ (z : State). HasPlaceFor 15000 z.memory) (sym begins) (record { systems = omega arith; rows = omega arith })

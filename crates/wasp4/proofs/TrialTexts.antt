@@ -21,6 +21,7 @@ use Rattle.wasp_session.specs.Solving.{AreCaseKeys, DemandsCase, IsCaseWithin, L
 use Rattle.wasp_session.specs.State.{MemoryIs, State, begun, no_memory}
 use Rattle.wasp_session.specs.declared.command.Command.TheVariants as commands
 use Rattle.deck_lines.specs.Deck.{body_of}
+use Rattle.wasp4.proofs.TrialDecks.{begins_with}
 use Rattle.wasp4.specs.Going.{Effort, IsSpent, effort_by}
 use Rattle.wasp4.specs.Trial.{IsTrial, IsTrialAnswered, TrialsAreOne, trial_accepted, trial_asked, trial_says, with_engine}
 use Rattle.wasp4.specs.Out.{accepted, asked_by, hours_points, with_engines}
@@ -114,3 +115,26 @@ same_numbers words engines result t u is by has = with_one (trial_asked words) e
     with_one : (asked : Option TrialNumbers) (engines : ℕ) (t u : TrialNumbers) → asked ≡ Some t → with_engine engines asked ≡ Some u → t ≡ u
     with_one asked zero t u e has = absurd cc
     with_one asked (suc n) t u e has = cc
+
+-- ---- of a session that begins with the deck
+
+-- what its case was solved with
+record Solves {X : Type 0} (s : State) (table : Table) (now : MemoryIs) (work : X → Work) (es fs : List X) : Type 0 where
+  is_table : IsTableOf (body_of s.deck) 1 (deck_tunnels (body_of s.deck) 1) table
+  within : IsCaseWithin (body_of s.deck) 1
+  learns : LearnsCase (body_of s.deck) 1 s.memory now work es fs
+
+pub begun_has_year : TrialsHaveOneCase → (t : TrialNumbers) (s : State) (table : Table) (solved : Solved) → IsTrial t → s ≡ begins_with t → IsTableOf (body_of s.deck) 1 (deck_tunnels (body_of s.deck) 1) table → IsSolution table solved → HasYear solved.outcome
+begun_has_year one_case t s table solved is begins of_case solution =
+    plan_has_year one_case t table solved is (subst (λ (z : State). IsTableOf (body_of z.deck) 1 (deck_tunnels (body_of z.deck) 1) table) begins of_case) solution
+
+pub begun_said : {X : Type 0} (t : TrialNumbers) (s : State) (table : Table) (solved : Solved) (now : MemoryIs) (work : X → Work) (es fs : List X) (clear first whole : List ℕ) (keys : ℕ)
+    → s ≡ begins_with t
+    → IsTableOf (body_of s.deck) 1 (deck_tunnels (body_of s.deck) 1) table → IsSolution table solved → IsCaseWithin (body_of s.deck) 1
+    → LearnsCase (body_of s.deck) 1 s.memory now work es fs
+    → clear ≡ [] → first ≡ clear ++ trial_text t.seed t.years t.candidates solved.outcome → keys ≡ length now.shelf.kept → whole ≡ first ++ keys_line keys
+    → IsTrialAnswered t whole (effort_by work es 0) (effort_by work fs now.tally)
+begun_said {X} t s table solved now work es fs clear first whole keys begins of_case solution within learns empty summed many closed =
+    let all : Solves s table now work es fs = record { is_table = of_case; within = within; learns = learns } in
+    let here : Solves (begins_with t) table now work es fs = subst (λ (z : State). Solves z table now work es fs) begins all in
+    said_is t table solved now work es fs clear first whole keys here.is_table solution here.within here.learns empty summed many closed
