@@ -1,5 +1,5 @@
 mod FirstPlans
-mod OneRanking
+pub mod OneRanking
 mod Putting
 mod Reaching
 mod Selecting

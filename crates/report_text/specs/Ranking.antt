@@ -20,14 +20,22 @@ chosen_lines configs = flat_map (λ p. chosen_line p.0 p.1) (enumerate_from 1 co
 abbrev pub rank_text : ℕ → Ranked → List ℕ
 rank_text i r = line (codes "RANK") (decimal i ∷ decimal r.total ∷ []) ++ chosen_lines r.configs
 
+-- plans in their order, by their ranks from 1
+abbrev pub ranked_text : List Ranked → List ℕ
+ranked_text ranking = flat_map (λ p. rank_text p.0 p.1) (enumerate_from 1 ranking)
+
 -- the ranked plans of a case; where there is none, the first year that no plan reaches
 abbrev pub ranks_text : Outcome → List Ranked → List ℕ
 ranks_text outcome [] = outcome_line outcome
-ranks_text outcome (first ∷ others) = flat_map (λ p. rank_text p.0 p.1) (enumerate_from 1 (first ∷ others))
+ranks_text outcome (first ∷ others) = ranked_text (first ∷ others)
+
+-- what each case begins with
+abbrev pub case_head : ℕ → List ℕ
+case_head c = line (codes "CASE") (decimal c ∷ [])
 
 abbrev pub ranking_text : ℕ → Outcome → List Ranked → List ℕ
-ranking_text c outcome ranking = line (codes "CASE") (decimal c ∷ []) ++ ranks_text outcome ranking
+ranking_text c outcome ranking = case_head c ++ ranks_text outcome ranking
 
 -- a case with a year over a limit
 abbrev pub over_text : ℕ → Refusal → List ℕ
-over_text c refusal = line (codes "CASE") (decimal c ∷ []) ++ refusal_line refusal
+over_text c refusal = case_head c ++ refusal_line refusal

@@ -16,7 +16,9 @@ mod come;
 mod data;
 mod laws;
 mod numbers;
+mod ranking;
 mod refusals;
+mod rounds;
 mod script;
 mod trial;
 mod verdicts;
@@ -25,7 +27,11 @@ mod year;
 pub use case::write_case;
 pub use data::{CaseReport, Generation, Generations, PlanYear};
 pub use laws::reports_read_back;
+pub use ranking::{write_no_plan, write_over, write_ranking};
 pub use refusals::{Refusal, write_refusal};
+pub use rounds::{
+    Found, write_barred, write_case_line, write_found, write_inside, write_round, write_rounds_end,
+};
 pub use script::{
     write_best_heading, write_heading, write_keys, write_malformed, write_search_heading,
 };

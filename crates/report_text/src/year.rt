@@ -12,7 +12,11 @@ use plant_data::{Config, MAX_COUNT, Row, Tunnel};
 use wasp_fixed::OutOfMemory;
 
 /// Appends the line of the planned configuration.
-fn push_chosen(year: u64, config: &Config, lines: &mut Vec<u8>) -> Result<(), OutOfMemory>
+pub(crate) fn push_chosen(
+    year: u64,
+    config: &Config,
+    lines: &mut Vec<u8>,
+) -> Result<(), OutOfMemory>
     ensures { OnOk result (lines.new.items ≡ lines.old.items ++ chosen_line year config.now) }
 {
     let head = format!(in *lines.allocator(); "CHOSEN {year}")?;

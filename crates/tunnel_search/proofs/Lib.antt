@@ -1,0 +1,3 @@
+mod MovedTunnels
+mod WorkedRows
+mod Years

@@ -7,22 +7,32 @@ mod CheckSteps
 mod DetailSteps
 pub mod FollowSteps
 mod GenerationSteps
+mod LearnOn
 mod LearnSteps
+mod LearnThen
 mod LineSteps
 mod ListSteps
 mod ListedKeys
 pub mod ModeLines
+mod OneOutcome
+mod OnePlan
 mod OnenessCases
 mod OnenessChecks
 mod OnenessKeys
+mod OnenessRanks
 mod OnenessReports
+mod OnenessRounds
 mod OnenessTellings
 mod OverSteps
 mod PlanSteps
 mod PlanTold
 mod PrintSteps
+mod RankSteps
 mod ReportSteps
 mod ResultSteps
+mod RoundAnswers
+mod RoundSteps
+mod SearchSteps
 mod SettleSteps
 mod ShelfSteps
 mod SolveSteps

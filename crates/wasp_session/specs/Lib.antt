@@ -10,6 +10,7 @@ pub mod Oneness
 pub mod Ranks
 pub mod Rounds
 pub mod Said
+pub mod Searching
 pub mod Solving
 pub mod State
 pub mod Steps

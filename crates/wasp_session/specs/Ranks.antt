@@ -1,5 +1,5 @@
 -- What `best K` tells of a PLAN line: the K best plans of each case, or why there is none. This program's own.
-use Rattle.std.specs.Prelude.{◌≡◌, ℕ, zero, suc, ◌⊎◌, List}
+use Rattle.std.specs.Prelude.{◌≡◌, ℕ, zero, suc, ◌≤◌, ◌⊎◌, List, ◌++◌, Vec}
 use Rattle.best_plans.specs.Best.{IsRanking}
 use Rattle.best_plans.specs.declared.ranked.Ranked.{Ranked}
 use Rattle.cost_terms.specs.Table.{Table}
@@ -54,3 +54,17 @@ pub record BestDemands (d : Says) (key : Run) : Type 0 where
   pub faultless : HasNoFault d
   pub case : ℕ
   pub asked : DemandsUnder d case (deck_tunnels d case) key
+
+-- ---- case by case
+
+-- the keys of the first cases
+pub record AsksUpTo (d : Says) (last : ℕ) (key : Run) : Type 0 where
+  pub case : ℕ
+  pub within : case ≤ last
+  pub asked : DemandsUnder d case (deck_tunnels d case) key
+
+-- a text is told, for which nothing is detailed
+pub record TellsPlain {Z : Type 0} (Is : Told → Type 0) (said said_now : Vec ℕ Z) : Type 0 where
+  pub more : List ℕ
+  pub is_told : Is (plain more)
+  pub text : said_now.items ≡ said.items ++ more

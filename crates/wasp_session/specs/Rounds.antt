@@ -1,23 +1,20 @@
 -- What `search` tells of a PLAN line: each case is planned round by round, its tunnels moved in between, until no chosen
 -- configuration stands at an edge that may be moved, a round is refused or infeasible, or 20 rounds are done. This
 -- program's own.
-use Rattle.std.specs.Prelude.{◌≡◌, ℕ, zero, suc, ◌+◌, ◌-◌, ◌<◌, ◌≤◌, ◌⊎◌, ◌++◌, List, [], ◌∷◌, Option, None, Some, codes, decimal, map, slice_index_or}
-use Rattle.std.specs.List.{range_with_len}
+use Rattle.std.specs.Prelude.{◌≡◌, ℕ, zero, suc, ◌+◌, ◌-◌, ◌<◌, ◌≤◌, ◌⊎◌, ◌++◌, List, [], ◌∷◌, Option, None, Some, map, slice_index_or}
 use Rattle.cost_terms.specs.Table.{Table}
 use Rattle.deck_check.specs.DeckFault.{HasNoFault}
-use Rattle.deck_check.specs.Readings.{Says, cases, greatest, years}
+use Rattle.deck_check.specs.Readings.{Says, cases, greatest}
 use Rattle.plan_program.specs.Chosen.{IsInfeasible, IsPlanOf}
-use Rattle.plan_program.specs.declared.solved.Outcome.TheVariants.{Infeasible}
-use Rattle.report_text.specs.Lines.{line}
 use Rattle.report_text.specs.Refusals.{refusal_line}
-use Rattle.report_text.specs.Report.{outcome_line}
-use Rattle.report_text.specs.Rounds.{Found, found_text, inside_line, round_line, rounds_line, search_heading}
+use Rattle.report_text.specs.Rounds.{barred_line, case_line, found_text, inside_line, round_line, rounds_line, search_heading}
 use Rattle.report_text.specs.declared.refusals.Refusal.{Refusal}
+use Rattle.report_text.specs.declared.rounds.Found.{Found}
 use Rattle.sim_engine.specs.Engine.{Run}
-use Rattle.tunnel_search.specs.Search.{IsInside, moved_tunnel}
+use Rattle.tunnel_search.specs.Search.{AreInside, moved_tunnels}
 use Rattle.wasp_session.specs.Case.{IsTableOf}
 use Rattle.wasp_session.specs.Keys.{DemandsUnder}
-use Rattle.wasp_session.specs.Listings.{AreWithin, IsOverIn, Tunnels, deck_tunnels, tunnel_at}
+use Rattle.wasp_session.specs.Listings.{AreWithin, IsOverIn, Tunnels, deck_tunnels}
 use Rattle.wasp_session.specs.Said.{IsFaultTold}
 use Rattle.wasp_session.specs.Told.{AreJoined, Told, nothing, plain}
 
@@ -37,19 +34,13 @@ pub record IsBarred (d : Says) (c : ℕ) (tunnels : Tunnels) (year : ℕ) : Type
   pub is_table : IsTableOf d c tunnels table
   pub is_barred : IsInfeasible table year
 
--- the configuration of a year
-abbrev pub config_at : List (List ℕ) → ℕ → List ℕ
-config_at configs t = slice_index_or configs (t - 1) []
-
 -- no chosen configuration has a mark
-abbrev pub AreInside : Says → Found → Type 0
-AreInside d f =
-    (t : ℕ) → 1 ≤ t → t ≤ years d → IsInside (greatest d) (tunnel_at f.tunnels t) (config_at f.configs t)
+abbrev pub IsSettled : Says → Found → Type 0
+IsSettled d f = AreInside (greatest d) f.tunnels f.configs
 
 -- the tunnels of the round behind it
-abbrev pub moved_tunnels : Says → Found → Tunnels
-moved_tunnels d f =
-    map (λ t. moved_tunnel (greatest d) (tunnel_at f.tunnels t) (config_at f.configs t)) (range_with_len 1 (years d))
+abbrev pub tunnels_behind : Says → Found → Tunnels
+tunnels_behind d f = moved_tunnels (greatest d) f.tunnels f.configs
 
 -- ---- the rounds of a case, from one on
 
@@ -61,7 +52,7 @@ pub record EndsOver (d : Says) (c : ℕ) (tunnels : Tunnels) (last : Option Foun
 pub record EndsBarred (d : Says) (c : ℕ) (tunnels : Tunnels) (last : Option Found) (text : List ℕ) : Type 0 where
   pub year : ℕ
   pub barred : IsBarred d c tunnels year
-  pub is : text ≡ outcome_line (Infeasible year) ++ found_text c last
+  pub is : text ≡ barred_line year ++ found_text c last
 
 -- a round with a plan, and what is told behind its line
 pub record GoesBehind (d : Says) (c round : ℕ) (tunnels : Tunnels) (Behind : Found → List ℕ → Type 0) (text : List ℕ) : Type 0 where
@@ -72,28 +63,21 @@ pub record GoesBehind (d : Says) (c round : ℕ) (tunnels : Tunnels) (Behind : F
   pub behind : Behind found rest
   pub is : text ≡ round_line round found.total ++ rest
 
--- it is the last with this end word
-pub record EndsSo (c : ℕ) (word : List ℕ) (f : Found) (text : List ℕ) : Type 0 where
-  pub is : text ≡ word ++ found_text c (Some f)
-
--- what is told of the rounds from one on, with so many more allowed behind it
+-- what is told of the rounds from one on, with so many of them allowed
 abbrev pub AreRounds : ℕ → Says → ℕ → ℕ → Tunnels → Option Found → List ℕ → Type 0
-AreRounds zero d c round tunnels last text =
-    EndsOver d c tunnels last text ⊎ (EndsBarred d c tunnels last text
-    ⊎ GoesBehind d c round tunnels
-    (λ f rest. (AreInside d f × EndsSo c inside_line f rest) ⊎ ((AreInside d f → ⊥) × EndsSo c rounds_line f rest)) text)
+AreRounds zero d c round tunnels last text = text ≡ rounds_line ++ found_text c last
 AreRounds (suc more) d c round tunnels last text =
     EndsOver d c tunnels last text ⊎ (EndsBarred d c tunnels last text
     ⊎ GoesBehind d c round tunnels
-    (λ f rest. (AreInside d f × EndsSo c inside_line f rest)
-    ⊎ ((AreInside d f → ⊥) × AreRounds more d c (round + 1) (moved_tunnels d f) (Some f) rest)) text)
+    (λ f rest. (IsSettled d f × (rest ≡ inside_line ++ found_text c (Some f)))
+    ⊎ ((IsSettled d f → ⊥) × AreRounds more d c (round + 1) (tunnels_behind d f) (Some f) rest)) text)
 
 -- ---- what is told
 
 pub record IsCaseSearched (d : Says) (c : ℕ) (told : Told) : Type 0 where
   pub rounds : List ℕ
-  pub are_rounds : AreRounds 19 d c 1 (deck_tunnels d c) None rounds
-  pub is : told ≡ plain (line (codes "CASE") (decimal c ∷ []) ++ rounds)
+  pub are_rounds : AreRounds 20 d c 1 (deck_tunnels d c) None rounds
+  pub is : told ≡ plain (case_line c ++ rounds)
 
 -- of the first cases
 abbrev pub AreCasesSearched : Says → ℕ → Told → Type 0
@@ -115,15 +99,20 @@ IsSearchTold n d told = AreJoined (λ head. head ≡ plain (search_heading n)) (
 abbrev pub IsRoundUnder : ℕ → Says → ℕ → Tunnels → Type 0
 IsRoundUnder zero d c tunnels = tunnels ≡ deck_tunnels d c
 IsRoundUnder (suc round) d c tunnels =
-    (f : Found) × IsRoundUnder round d c f.tunnels × IsFound d c f × (AreInside d f → ⊥)
-    × (tunnels ≡ moved_tunnels d f)
+    (f : Found) × IsRoundUnder round d c f.tunnels × IsFound d c f × (IsSettled d f → ⊥)
+    × (tunnels ≡ tunnels_behind d f)
 
--- those of all rounds that are not refused
+-- a round of a case, of the first so many, that is not refused
+pub record RoundDemands (d : Says) (c rounds : ℕ) (key : Run) : Type 0 where
+  pub round : ℕ
+  pub few : round < rounds
+  pub tunnels : Tunnels
+  pub is_round : IsRoundUnder round d c tunnels
+  pub asked : DemandsUnder d c tunnels key
+
+-- the keys of all of them
 pub record SearchDemands (d : Says) (key : Run) : Type 0 where
   pub faultless : HasNoFault d
   pub case : ℕ
-  pub round : ℕ
-  pub few : round < 20
-  pub tunnels : Tunnels
-  pub is_round : IsRoundUnder round d case tunnels
-  pub asked : DemandsUnder d case tunnels key
+  pub within : (1 ≤ case) × (case ≤ cases d)
+  pub asked : RoundDemands d case 20 key

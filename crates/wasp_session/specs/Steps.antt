@@ -106,9 +106,14 @@ IsWantingAt line s t work es fs = IsWanting (IsTakenAt s line) (line_asks s line
 
 -- ---- the sizes
 
--- the systems of a deck's years find numbers, and so many keys places beside the kept rows
-pub record HasPlaceFor (keys : ℕ) (m : MemoryIs) : Type 0 where
+-- for one call: the systems of a deck's years find numbers, and so many keys places beside the kept rows
+pub record HasRoomFor (keys : ℕ) (m : MemoryIs) : Type 0 where
   pub systems : length m.shelf.book ≤ 2018
+  pub rows : length m.shelf.kept + keys < 2 ^ 23
+
+-- for the calls of a line, one after the other on one deck: the last finds room behind the others
+pub record HasPlaceFor (keys : ℕ) (m : MemoryIs) : Type 0 where
+  pub systems : length m.shelf.book ≤ 1988
   pub rows : length m.shelf.kept + keys < 2 ^ 23
 
 -- a line's keys have places, and it is not the 65th of its kind

@@ -5,7 +5,7 @@ ghost use Rattle.deck_lines.specs.Deck.{body_of};
 ghost use Rattle.wasp_session.specs.Inner.{IsAnswerUnder};
 ghost use Rattle.wasp_session.specs.Keys.{DemandsUnder};
 ghost use Rattle.wasp_session.specs.Listings.{AreTunnels, AreWithin, deck_tunnels};
-ghost use Rattle.wasp_session.specs.Steps.{GainsFew, HasPlaceFor, IsLost, Learns};
+ghost use Rattle.wasp_session.specs.Steps.{GainsFew, HasRoomFor, IsLost, Learns};
 
 use crate::listing::{ListError, list_case, own_tunnels, systems_of};
 use crate::memory::Memory;
@@ -53,7 +53,7 @@ pub(crate) fn answer_under<E: SimEngine, R: Threads + Sync>(
     requires low { 1 ≤ asked.case }
     requires high { asked.case ≤ says.cases (body_of asked.typed.now) }
     requires tunnels { AreTunnels (body_of asked.typed.now) asked.tunnels.now }
-    requires place { HasPlaceFor 15000 memory.old }
+    requires place { HasRoomFor 15000 memory.old }
     ensures answer { IfOk result (λ answer. IsAnswerUnder (body_of asked.entry.typed.now) asked.entry.case
         asked.entry.tunnels.now answer) }
     ensures learns { OnOk result (Learns (AreWithin (body_of asked.entry.typed.now) asked.entry.case
@@ -98,7 +98,7 @@ pub(crate) fn answer_case<E: SimEngine, R: Threads + Sync>(
     requires most { length engines.old ≤ 64 }
     requires low { 1 ≤ case }
     requires high { case ≤ says.cases (body_of typed.now) }
-    requires place { HasPlaceFor 15000 memory.old }
+    requires place { HasRoomFor 15000 memory.old }
     ensures answer { IfOk result (λ answer. IsAnswerUnder (body_of typed.now) case
         (deck_tunnels (body_of typed.now) case) answer) }
     ensures learns { OnOk result (Learns (AreWithin (body_of typed.now) case (deck_tunnels (body_of typed.now) case))

@@ -23,6 +23,7 @@ mod opened;
 mod plan;
 mod planned;
 mod report;
+mod rounds;
 mod searching;
 mod session;
 mod settling;

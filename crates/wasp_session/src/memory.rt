@@ -4,7 +4,7 @@ ghost use Rattle.deck_lines.specs.Deck.{body_of};
 ghost use Rattle.row_shelf.specs.Shelf.{IsShelf};
 ghost use Rattle.wasp_session.specs.Inner.{FitYears, IsOfLists};
 ghost use Rattle.wasp_session.specs.State.{no_memory};
-ghost use Rattle.wasp_session.specs.Steps.{GainsFew, HasPlaceFor, IsLost, Learns};
+ghost use Rattle.wasp_session.specs.Steps.{GainsFew, HasRoomFor, IsLost, Learns};
 ghost use Rattle.wasp_session.specs.Studies.{AreSystems, HasYears};
 
 use checked_deck::TypedDeck;
@@ -76,7 +76,7 @@ impl Memory {
         requires most { length engines.old ≤ 64 }
         requires systems { AreSystems (body_of typed.now) systems.items }
         requires lists { All (FitYears (body_of typed.now)) cases.now }
-        requires place { HasPlaceFor (15000 * length cases.now) self.old }
+        requires place { HasRoomFor (15000 * length cases.now) self.old }
         ensures numbers { IfOk result (λ ids. HasYears (body_of typed.now) self.new.shelf.book ids.items) }
         ensures learns { OnOk result (Learns (Unit {0}) (IsOfLists (body_of typed.now) cases.now) (body_of typed.now)
             self.old self.new E.work engines.old engines.new 0) }

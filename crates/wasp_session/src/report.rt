@@ -29,7 +29,7 @@ use wasp_fixed::OutOfMemory;
 use year_system::YearSystem;
 
 /// The greatest counts of a system's candidates.
-fn greatest_of(system: &YearSystem) -> Config
+pub(crate) fn greatest_of(system: &YearSystem) -> Config
     ensures { result ≡ greatest system.now }
 {
     let mut counts = Config::zero(system.width());
