@@ -1,6 +1,9 @@
 -- What is written of a trial, and the words that ask for it.
-use Rattle.std.proofs.Common.{◌≡◌, ◌≢◌, ◌∙◌, refl, sym, ap, subst, ℕ, zero, suc, ◌+◌, ◌≤◌, List, [], ◌∷◌, ◌++◌, length, map, Option, None, Some, Contains, arith, inl, inr, ⊎_elim}
-use Rattle.std.proofs.lemmas.List.{length-map}
+use Rattle.std.proofs.Common.{◌≡◌, ◌≢◌, ◌∙◌, refl, sym, ap, subst, ℕ, zero, suc, ◌+◌, ◌<◌, ◌≤◌, List, [], ◌∷◌, ◌++◌, length, map, Option, None, Some, Contains, arith, inl, inr, ⊎_elim, Bool, true}
+use Rattle.std.specs.Prelude.{nat_le, if◌then◌else◌}
+use Rattle.std.proofs.lemmas.Bool.{le-leb}
+use Rattle.std.specs.Io.KnownBytes.{Appends}
+use Rattle.std.proofs.lemmas.List.{length-append, length-map}
 use Rattle.cost_terms.specs.Table.{Table}
 use Rattle.deck_lines.specs.declared.statement.Statement.{Statement}
 use Rattle.deck_maker.specs.Laws.{TrialsHaveOneCase}
@@ -13,7 +16,7 @@ use Rattle.report_text.specs.Lines.{keys_line}
 use Rattle.report_text.specs.Trial.{HasYear, trial_text}
 use Rattle.row_shelf.specs.Adds.{Adds}
 use Rattle.row_shelf.specs.Shelf.{Holds, ShelfIs, no_rows}
-use Rattle.sim_engine.specs.Engine.{Run, Work}
+use Rattle.sim_engine.specs.Engine.{Run, Work, raised}
 use Rattle.wasp_session.specs.Case.{IsTableOf}
 use Rattle.wasp_session.specs.Keys.{IsCaseKey}
 use Rattle.wasp_session.specs.Listings.{deck_tunnels}
@@ -22,8 +25,13 @@ use Rattle.wasp_session.specs.State.{MemoryIs, State, begun, no_memory}
 use Rattle.wasp_session.specs.declared.command.Command.TheVariants as commands
 use Rattle.deck_lines.specs.Deck.{body_of}
 use Rattle.wasp4.proofs.TrialDecks.{begins_with}
+use Rattle.wasp4.proofs.Counts.{spent_on}
+use Rattle.wasp4.proofs.HourTexts.{of_told, wrote_is}
+use Rattle.wasp_io.specs.Causes.{Rose}
+use Rattle.wasp_io.specs.Known.{IsSureWithin}
+use Rattle.wasp4.specs.Progress.{IsCutShort}
 use Rattle.wasp4.specs.Going.{Effort, IsSpent, effort_by}
-use Rattle.wasp4.specs.Trial.{IsTrial, IsTrialAnswered, TrialsAreOne, trial_accepted, trial_asked, trial_says, with_engine}
+use Rattle.wasp4.specs.Trial.{ClosesTrial, CutsTrial, HasRoomForTrial, IsTrial, IsTrialAnswered, TrialsAreOne, trial_accepted, trial_asked, trial_says, with_engine}
 use Rattle.wasp4.specs.Out.{accepted, asked_by, hours_points, with_engines}
 use Rattle.wasp4.specs.declared.asked.Asked.{Asked}
 use Rattle.wasp4.specs.declared.trial.TrialNumbers.{TrialNumbers}
@@ -62,7 +70,7 @@ pub said_is : {X : Type 0} (t : TrialNumbers) (table : Table) (s : Solved) (now 
     → clear ≡ [] → first ≡ clear ++ trial_text t.seed t.years t.candidates s.outcome → keys ≡ length now.shelf.kept → whole ≡ first ++ keys_line keys
     → IsTrialAnswered t whole (effort_by work es 0) (effort_by work fs now.tally)
 said_is t table s now work es fs clear first whole keys of_case solution within learns empty summed many closed =
-    let count : keys ≡ length learns.new = many ∙ learns.adds.many in
+    let count : keys ≡ length learns.new = omega (arith, many, learns.adds.many) in
     let front : first ≡ trial_text t.seed t.years t.candidates s.outcome = summed ∙ ap (λ (z : List ℕ). z ++ trial_text t.seed t.years t.candidates s.outcome) empty in
     record {
       table = table;
@@ -74,6 +82,43 @@ said_is t table s now work es fs clear first whole keys of_case solution within 
       text = closed ∙ (ap (λ (z : List ℕ). z ++ keys_line keys) front ∙ ap (λ (k : ℕ). trial_text t.seed t.years t.candidates s.outcome ++ keys_line k) count);
       spent = record { worked = learns.worked; tally = learns.tally };
     }
+
+-- with what a caller's count was before
+trial_on : (t : TrialNumbers) (said : List ℕ) (n m : ℕ) (before now : Effort) → before.tally ≡ 0 → m ≡ raised now.tally n → IsTrialAnswered t said before now
+    → IsTrialAnswered t said (record before { tally = n }) (record now { tally = m })
+trial_on t said n m before now none is a = record {
+  table = a.table;
+  is_table = a.is_table;
+  solved = a.solved;
+  is_solution = a.is_solution;
+  keys = a.keys;
+  are_keys = a.are_keys;
+  text = a.text;
+  spent = spent_on a.keys 0 n m before now none is a.spent;
+}
+
+-- the whole text was put, or a front of it
+pub closes : (t : TrialNumbers) (written written' : Option (List ℕ)) (said put : List ℕ) (n m : ℕ) (before now : Effort) → before.tally ≡ 0 → m ≡ raised now.tally n → put ≡ said
+    → IsTrialAnswered t said before now → Appends written written' put → ClosesTrial t written written' (record before { tally = n }) (record now { tally = m })
+closes t written written' said put n m before now none is same a wrote =
+    record { said = said; answered = trial_on t said n m before now none is a; wrote = subst (λ (x : List ℕ). Appends written written' x) same wrote }
+
+pub cuts : (t : TrialNumbers) (written written' : Option (List ℕ)) (said put : List ℕ) (n m : ℕ) (before now : Effort) → before.tally ≡ 0 → m ≡ raised now.tally n → put ≡ said
+    → IsTrialAnswered t said before now → IsCutShort written written' put → CutsTrial t written written' (record before { tally = n }) (record now { tally = m })
+cuts t written written' said put n m before now none is same a cut =
+    record { said = said; answered = trial_on t said n m before now none is a; cut = subst (λ (x : List ℕ). IsCutShort written written' x) same cut }
+
+-- into a sink with room for the whole text
+pub never_short : (t : TrialNumbers) (a b : Option (List ℕ)) (room : Option ℕ) (f g : ℕ) (start now : Effort) → HasRoomForTrial t a room → ((r : ℕ) → room ≡ Some r → IsSureWithin r b g) → CutsTrial t a b start now → Rose f g → ⊥
+never_short t a b room f g start now has sure short rose =
+    let within = sure has.most has.sure in
+    let cut = short.cut in
+    let put : List ℕ = has.before ++ cut.done in
+    let wrote : b ≡ Some put = wrote_is a b has.before cut.done has.wrote within.told cut.wrote in
+    let fits = has.fits short.said start now short.answered in
+    let fewer : length put < has.most = omega (arith, fits, ap length cut.is, length-append cut.done (cut.next ∷ cut.rest), length-append has.before cut.done) in
+    let none : g ≡ 0 = of_told b put (λ bytes. length bytes < has.most → g ≡ 0) wrote within.no_fault fewer in
+    absurd (omega (arith, none, rose))
 
 -- ---- it is one
 
@@ -114,7 +159,10 @@ same_numbers words engines result t u is by has = with_one (trial_asked words) e
   where
     with_one : (asked : Option TrialNumbers) (engines : ℕ) (t u : TrialNumbers) → asked ≡ Some t → with_engine engines asked ≡ Some u → t ≡ u
     with_one asked zero t u e has = absurd cc
-    with_one asked (suc n) t u e has = cc
+    with_one asked (suc n) t u e has =
+        let on : nat_le 1 (suc n) ≡ true = le-leb 1 (suc n) (omega arith) in
+        let same : asked ≡ Some u = sym (ap (λ (b : Bool). if b then asked else None) on) ∙ has in
+        cc
 
 -- ---- of a session that begins with the deck
 

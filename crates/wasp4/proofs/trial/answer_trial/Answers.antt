@@ -7,7 +7,7 @@ use Rattle.wasp4.proofs.TrialTexts.{begun_has_year, begun_said}
 use Rattle.wasp4.proofs.trial.answer_trial.Goals as goal
 
 pub solve_case-requires-clause-solvable : goal.solve_case-requires-clause-solvable
-solve_case-requires-clause-solvable g c =
+solve_case-requires-clause-solvable g c κs within =
     begun_solvable c.trials_have_no_fault.ensures c.trials_have_one_case.ensures c.listings_fit.ensures c.args.numbers c.args.session.now c.requires.numbers c.requires.session
 
 pub write_trial-requires : goal.write_trial-requires
