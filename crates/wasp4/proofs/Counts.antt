@@ -47,7 +47,7 @@ again (suc n) t =
 
 -- ---- what was spent
 
-spent_on : (keys : List Run) (years t t_now : ℕ) (before now : Effort) → before.tally ≡ 0 → t_now ≡ raised now.tally t → IsSpent keys years before now
+pub spent_on : (keys : List Run) (years t t_now : ℕ) (before now : Effort) → before.tally ≡ 0 → t_now ≡ raised now.tally t → IsSpent keys years before now
     → IsSpent keys years (record before { tally = t }) (record now { tally = t_now })
 spent_on keys years t t_now before now none is spent = record {
   worked = spent.worked;

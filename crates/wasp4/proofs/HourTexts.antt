@@ -89,10 +89,10 @@ no_points {P} result asked points is by has = absurd cc
 
 -- ---- a sink with room for the text does not fail
 
-of_told : (a : Option (List ℕ)) (bytes : List ℕ) (P : List ℕ → Type 0) → a ≡ Some bytes → IfSome a P → P bytes
+pub of_told : (a : Option (List ℕ)) (bytes : List ℕ) (P : List ℕ → Type 0) → a ≡ Some bytes → IfSome a P → P bytes
 of_told a bytes P is h = let told : IfSome (Some bytes) P = subst (λ (x : Option (List ℕ)). IfSome x P) is h in told
 
-wrote_is : (a b : Option (List ℕ)) (before said : List ℕ) → a ≡ Some before → ((bytes : List ℕ) × (b ≡ Some bytes)) → Appends a b said → b ≡ Some (before ++ said)
+pub wrote_is : (a b : Option (List ℕ)) (before said : List ℕ) → a ≡ Some before → ((bytes : List ℕ) × (b ≡ Some bytes)) → Appends a b said → b ≡ Some (before ++ said)
 wrote_is a b before said was told wrote =
     let appends : Appends (Some before) (Some told.0) said = subst (λ (x : Option (List ℕ)). Appends x (Some told.0) said) was (subst (λ (x : Option (List ℕ)). Appends a x said) told.1 wrote) in
     told.1 ∙ ap (λ (x : List ℕ). Some x) appends

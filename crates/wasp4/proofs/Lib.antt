@@ -10,4 +10,6 @@ pub mod Refusing
 pub mod Running
 pub mod Scripts
 pub mod Texts
+pub mod TrialDecks
+pub mod TrialTexts
 pub mod Written

@@ -4,3 +4,4 @@ pub mod Oneness
 pub mod Out
 pub mod Progress
 pub mod Script
+pub mod Trial

@@ -1,7 +1,8 @@
 //! Laws about the text of a script.
 ghost use Rattle.wasp4.specs.Oneness.{TextsAreOne, TextsGoOn, WorkersWriteOneText};
+ghost use Rattle.wasp4.specs.Trial.{TrialsAreOne};
 
-use wasp_session::{key_lists_are_one, telling_of_a_front, tellings_are_one};
+use wasp_session::{key_lists_are_one, solved_cases_are_one, telling_of_a_front, tellings_are_one};
 
 /// Two answers to a script, whatever engines gave them, have the same text, the same count of NOs and the same keys.
 pub fn texts_are_one()
@@ -28,4 +29,11 @@ pub fn workers_write_one_text()
 {
     tellings_are_one();
     key_lists_are_one();
+}
+
+/// The text of a trial of three numbers is one, whatever engine planned it.
+pub fn trials_are_one()
+    ensures { TrialsAreOne }
+{
+    solved_cases_are_one();
 }

@@ -1,8 +1,10 @@
 //! The words of the command line.
 ghost use Rattle.std.specs.Prelude.{◌≡◌, ◌≤◌, ◌++◌, ◌∷◌, [], IfSome, OnErr, OnOk};
 ghost use Rattle.wasp4.specs.Out as spec;
+ghost use Rattle.wasp4.specs.Trial.{IsTrial, trial_asked};
 
 use crate::asked::Asked;
+use crate::trial::{TrialNumbers, trial_behind};
 use hourly_load::number;
 use std::alloc::Global;
 use std::marker::Model;
@@ -126,5 +128,21 @@ impl CommandWords {
             return None;
         }
         points_behind(self.words[0].as_str(), self.words[1].as_str())
+    }
+
+    /// The numbers that `trial SEED YEARS CANDIDATES` asks for.
+    pub(crate) fn trial(&self) -> Option<TrialNumbers>
+        ensures value { result ≡ trial_asked self.now }
+        ensures range { IfSome result (λ t. IsTrial t) }
+    {
+        if self.words.len() != 4 {
+            return None;
+        }
+        trial_behind(
+            self.words[0].as_str(),
+            self.words[1].as_str(),
+            self.words[2].as_str(),
+            self.words[3].as_str(),
+        )
     }
 }
