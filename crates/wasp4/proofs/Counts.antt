@@ -1,7 +1,7 @@
 -- What a run counted by itself, counted on.
-use Rattle.std.proofs.Common.{◌≡◌, ◌∙◌, refl, sym, ap, subst, ℕ, zero, suc, ◌+◌, ◌-◌, ◌^◌, ◌<◌, ◌≤◌, ⊎_elim, List, length, Option, arith}
+use Rattle.std.proofs.Common.{◌≡◌, ◌∙◌, refl, sym, ap, subst, ℕ, zero, suc, ◌-◌, ◌^◌, ◌<◌, ◌≤◌, ⊎_elim, List, length, Option, arith}
 use Rattle.std.proofs.lemmas.Bool.{cases_lt}
-use Rattle.sim_engine.specs.Engine.{Run, Work, counted, raised}
+use Rattle.sim_engine.specs.Engine.{Run, counted, raised}
 use Rattle.wasp_session.specs.declared.command.Command.{Command}
 use Rattle.wasp4.specs.Going.{Effort, IsSpent}
 use Rattle.wasp4.specs.Out.{IsAnswered}

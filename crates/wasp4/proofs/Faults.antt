@@ -1,5 +1,5 @@
 -- Which fault a count of faults rose by, and what cannot fail.
-use Rattle.std.proofs.Common.{◌≡◌, ◌≢◌, ◌∙◌, refl, sym, ap, subst, true≢false, false, is_some, ℕ, ◌+◌, ◌-◌, ◌<◌, List, [], ◌∷◌, ◌++◌, length, Option, None, Some, arith}
+use Rattle.std.proofs.Common.{◌≡◌, ◌∙◌, refl, sym, ap, subst, true≢false, is_some, ℕ, ◌<◌, List, [], ◌∷◌, ◌++◌, length, Option, None, Some, arith}
 use Rattle.std.specs.Prelude.{Result, Ok, IfSome, IsTrue, nat_le}
 use Rattle.std.proofs.lemmas.List.{length-append}
 use Rattle.std.specs.Io.KnownBytes.{Appends}
@@ -12,7 +12,6 @@ use Rattle.wasp4.specs.Out.{IsFront, accepted, asked_by, used, with_engines}
 use Rattle.wasp4.specs.declared.asked.Asked.{Asked}
 use Rattle.wasp4.specs.Progress.{HasRoomFor, PutAs, StopsShort}
 use Rattle.wasp4.specs.Script.{script_of}
-use Rattle.wasp4.specs.declared.status.Ending.TheVariants as endings
 use Rattle.wasp4.specs.declared.status.Status.{Status}
 use Rattle.wasp4.specs.declared.status.Status.TheVariants as statuses
 use Rattle.wasp4.specs.declared.status.Turn.{Turn}

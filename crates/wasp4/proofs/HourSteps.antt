@@ -1,9 +1,9 @@
 -- Lines of hourly loads, one behind the other.
 use Rattle.std.proofs.Common.{◌≡◌, ◌∙◌, refl, sym, ap, subst, ℕ, ◌+◌, ◌<◌, ◌≤◌, Bool, List, [], ◌∷◌, ◌++◌, length, Option, None, Some, append_assoc, arith}
-use Rattle.std.specs.Prelude.{IfOk, IfSome, Result, Ok, Err, nat_lt, if◌then◌else◌}
+use Rattle.std.specs.Prelude.{IfOk, IfSome, Result, Ok, Err, if◌then◌else◌}
 use Rattle.std.specs.Io.KnownBytes.{Consumes, Keeps, IsAtEnd}
 use Rattle.std.proofs.lemmas.Bool.{le-ltb, lt-ltb}
-use Rattle.std.proofs.lemmas.List.{append-nil, length-append}
+use Rattle.std.proofs.lemmas.List.{length-append}
 use Rattle.line_reader.specs.Lines.{lines_of, unlines, IsUnbroken}
 use Rattle.line_reader.specs.Reading.{ahead, LineBegins}
 use Rattle.line_reader.proofs.Steps.{Consumes-none, Consumes-then}
@@ -12,7 +12,6 @@ use Rattle.deck_lines.specs.declared.fault.LineFault.{LineFault}
 use Rattle.deck_lines.specs.declared.fault.LineKind.TheVariants as kinds
 use Rattle.hourly_load.specs.Lines.{load_line_of}
 use Rattle.hourly_load.specs.declared.line.LoadLine.{LoadLine}
-use Rattle.hourly_load.specs.declared.line.LoadLine.TheVariants as lines
 use Rattle.wasp4.specs.declared.hours.LoadTurn.{LoadTurn}
 use Rattle.wasp4.specs.declared.hours.LoadTurn.TheVariants as turns
 use Rattle.wasp4.specs.Hours.{LineTurn, LoadsFrom, StopsBetweenLoads, TakesLoads, TakesPart, load_behind, load_then, loads_behind, loads_of, stated_behind}

@@ -1,13 +1,11 @@
 -- What is written of a trial, and the words that ask for it.
-use Rattle.std.proofs.Common.{◌≡◌, ◌≢◌, ◌∙◌, refl, sym, ap, subst, ℕ, zero, suc, ◌+◌, ◌<◌, ◌≤◌, List, [], ◌∷◌, ◌++◌, length, map, Option, None, Some, Contains, arith, inl, inr, ⊎_elim, Bool, true}
+use Rattle.std.proofs.Common.{◌≡◌, ◌∙◌, refl, sym, ap, subst, ℕ, zero, suc, ◌<◌, ◌≤◌, List, [], ◌∷◌, ◌++◌, length, Option, None, Some, arith, ⊎_elim, Bool, true}
 use Rattle.std.specs.Prelude.{nat_le, if◌then◌else◌}
 use Rattle.std.proofs.lemmas.Bool.{le-leb}
 use Rattle.std.specs.Io.KnownBytes.{Appends}
 use Rattle.std.proofs.lemmas.List.{length-append, length-map}
 use Rattle.cost_terms.specs.Table.{Table}
-use Rattle.deck_lines.specs.declared.statement.Statement.{Statement}
 use Rattle.deck_maker.specs.Laws.{TrialsHaveOneCase}
-use Rattle.deck_maker.specs.TrialDeck.{trial}
 use Rattle.plan_program.specs.Chosen.{IsOutcome, IsSolution}
 use Rattle.plan_program.specs.declared.solved.Outcome.{Outcome}
 use Rattle.plan_program.specs.declared.solved.Outcome.TheVariants.{Plan, Infeasible}
@@ -18,11 +16,9 @@ use Rattle.row_shelf.specs.Adds.{Adds}
 use Rattle.row_shelf.specs.Shelf.{Holds, ShelfIs, no_rows}
 use Rattle.sim_engine.specs.Engine.{Run, Work, raised}
 use Rattle.wasp_session.specs.Case.{IsTableOf}
-use Rattle.wasp_session.specs.Keys.{IsCaseKey}
 use Rattle.wasp_session.specs.Listings.{deck_tunnels}
 use Rattle.wasp_session.specs.Solving.{AreCaseKeys, DemandsCase, IsCaseWithin, LearnsCase, SolvedCasesAreOne}
-use Rattle.wasp_session.specs.State.{MemoryIs, State, begun, no_memory}
-use Rattle.wasp_session.specs.declared.command.Command.TheVariants as commands
+use Rattle.wasp_session.specs.State.{MemoryIs, State, no_memory}
 use Rattle.deck_lines.specs.Deck.{body_of}
 use Rattle.wasp4.proofs.TrialDecks.{begins_with}
 use Rattle.wasp4.proofs.Counts.{spent_on}
@@ -30,7 +26,7 @@ use Rattle.wasp4.proofs.HourTexts.{of_told, wrote_is}
 use Rattle.wasp_io.specs.Causes.{Rose}
 use Rattle.wasp_io.specs.Known.{IsSureWithin}
 use Rattle.wasp4.specs.Progress.{IsCutShort}
-use Rattle.wasp4.specs.Going.{Effort, IsSpent, effort_by}
+use Rattle.wasp4.specs.Going.{Effort, effort_by}
 use Rattle.wasp4.specs.Trial.{ClosesTrial, CutsTrial, HasRoomForTrial, IsTrial, IsTrialAnswered, TrialsAreOne, trial_accepted, trial_asked, trial_says, with_engine}
 use Rattle.wasp4.specs.Out.{accepted, asked_by, hours_points, with_engines}
 use Rattle.wasp4.specs.declared.asked.Asked.{Asked}

@@ -1,5 +1,5 @@
 -- The hourly loads that the lines of a source are, up to END. This program's own.
-use Rattle.std.specs.Prelude.{◌≡◌, ◌==◌, ◌++◌, ◌+◌, ◌<◌, ◌≤◌, ℕ, List, [], ◌∷◌, All, length, Option, None, Some, IfSome, Result, Ok, Err, nat_lt, if◌then◌else◌}
+use Rattle.std.specs.Prelude.{◌≡◌, ◌==◌, ◌++◌, ◌+◌, ◌≤◌, ℕ, List, [], ◌∷◌, All, length, Option, None, Some, IfSome, Result, Ok, Err, nat_lt, if◌then◌else◌}
 use Rattle.std.specs.List.{AllByRecursion}
 use Rattle.std.specs.Io.KnownBytes.{Appends, Consumes, Keeps}
 use Rattle.deck_lines.specs.LineFault.{◌>>=◌, fault}

@@ -42,7 +42,7 @@ fn answer<E: SimEngine, R: Threads + Sync>(
     edge: &Edge,
     engines: &mut [E],
 ) -> Result<(Status, Vec<u8>, u64), Fail> {
-        let mut source = MemSource::new(alloc, bytes, edge.chunk.max(1), edge.failing_takes)?;
+    let mut source = MemSource::new(alloc, bytes, edge.chunk.max(1), edge.failing_takes)?;
     let mut sink = MemSink::new(alloc, edge.room, 8, edge.failing_puts)?;
     let mut tally = Tally::new();
     let status = run(
@@ -162,7 +162,14 @@ fn each_key_is_simulated_once(rt: HostRuntime) -> Result<(), Fail> {
     let script = format!(in rt.alloc(); "{DECK}PLAN\nPLAN\nTUNNEL 1 1 0 3\nPLAN\nEND\n")?;
     let words = words(rt.alloc(), &["plan"])?;
     let mut engines = [telling(rt.alloc())?];
-    let (status, _, _) = answer(&rt, rt.alloc(), &words, script.as_bytes(), &SOUND, &mut engines)?;
+    let (status, _, _) = answer(
+        &rt,
+        rt.alloc(),
+        &words,
+        script.as_bytes(),
+        &SOUND,
+        &mut engines,
+    )?;
     assert_eq!(rt; status, Status::Done);
     let Some(runs) = engines[0].runs() else {
         return Err(Fail::new("no runs are told"));
@@ -199,7 +206,14 @@ fn two_of_three_engines_work(rt: HostRuntime) -> Result<(), Fail> {
     let script = format!(in alloc; "{DECK}PLAN\nEND\n")?;
     let words = words(alloc, &["plan", "--workers", "2"])?;
     let mut engines = [telling(alloc)?, telling(alloc)?, telling(alloc)?];
-    let (status, text, filled) = answer(&rt, rt.alloc(), &words, script.as_bytes(), &SOUND, &mut engines)?;
+    let (status, text, filled) = answer(
+        &rt,
+        rt.alloc(),
+        &words,
+        script.as_bytes(),
+        &SOUND,
+        &mut engines,
+    )?;
     let report = format!(in alloc; "PLAN 1\n{CASE}KEYS 3\n")?;
     assert_eq!(rt; status, Status::Done);
     assert_eq!(rt; text.as_slice(), report.as_bytes());
@@ -211,8 +225,7 @@ fn two_of_three_engines_work(rt: HostRuntime) -> Result<(), Fail> {
 #[test]
 fn other_words_get_the_usage_line(rt: HostRuntime) -> Result<(), Fail> {
     let usage =
-        b"USAGE plan [--workers N] | check | trial SEED YEARS CANDIDATES | search | best K | hours N\n"
-            .as_slice();
+        b"USAGE plan [--workers N] | check | trial SEED YEARS CANDIDATES | search | best K | hours N\n".as_slice();
     let words = CommandWords::new(rt.alloc());
     let mut engines = [PlainEngine::new(rt.alloc())];
     let (status, text, _) = answer(&rt, rt.alloc(), &words, b"", &SOUND, &mut engines)?;

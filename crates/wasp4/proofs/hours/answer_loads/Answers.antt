@@ -1,4 +1,3 @@
-use Rattle.std.proofs.Common.{arith}
 use Rattle.wasp4.proofs.HourTexts.{says_fault, says_shape}
 use Rattle.wasp4.proofs.hours.answer_loads.Goals as goal
 

@@ -1,5 +1,5 @@
-use Rattle.std.proofs.Common.{[], refl, arith}
-use Rattle.wasp4.proofs.HourSteps.{at_end, last_ended, last_goes, last_malformed, line_turned, long_here}
+use Rattle.std.proofs.Common.{arith}
+use Rattle.wasp4.proofs.HourSteps.{at_end, last_goes, line_turned, long_here}
 use Rattle.wasp4.proofs.hours.turn.Goals as goal
 
 pub returns-in-Line-clause-turn : goal.returns-in-Line-clause-turn

@@ -1,4 +1,4 @@
-use Rattle.std.proofs.Common.{◌≡◌, ◌∙◌, ◌++◌, refl, sym, subst, length, List, take, drop, arith, ◌≤◌}
+use Rattle.std.proofs.Common.{◌≡◌, ◌∙◌, ◌++◌, refl, sym, subst, length, List, take, drop, arith}
 use Rattle.wasp4.specs.Going.{effort_by}
 use Rattle.wasp4.specs.Trial.{AnswersTrial, AnswersTrialBy}
 use Rattle.wasp4.specs.declared.trial.TrialNumbers.{TrialNumbers}

@@ -1,4 +1,4 @@
-use Rattle.std.proofs.Common.{◌≡◌, ◌∙◌, ◌≤◌, sym, ap, length, arith}
+use Rattle.std.proofs.Common.{◌∙◌, ◌≤◌, ap, length, arith}
 use Rattle.std.proofs.lemmas.Bool.{le-leb}
 use Rattle.wasp4.specs.Out.{command_of, used}
 use Rattle.wasp4.proofs.Faults.{never_short, same_asked}

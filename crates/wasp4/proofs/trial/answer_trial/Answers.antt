@@ -1,7 +1,7 @@
-use Rattle.std.proofs.Common.{◌∙◌, ap, ◌++◌, List, ℕ}
+use Rattle.std.proofs.Common.{◌∙◌, ap, ◌++◌}
 use Rattle.std.proofs.lemmas.Result.{on_ok_weaker}
 use Rattle.plan_program.specs.declared.solved.Solved.{Solved}
-use Rattle.report_text.specs.Trial.{HasYear, trial_text}
+use Rattle.report_text.specs.Trial.{trial_text}
 use Rattle.wasp4.proofs.TrialDecks.{begun_solvable}
 use Rattle.wasp4.proofs.TrialTexts.{begun_has_year, begun_said}
 use Rattle.wasp4.proofs.trial.answer_trial.Goals as goal

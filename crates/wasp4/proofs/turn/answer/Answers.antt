@@ -1,5 +1,4 @@
-use Rattle.std.proofs.Common.{◌≡◌, ◌≢◌, ◌∙◌, refl, sym, ap, ◌+◌, ◌<◌, ◌≤◌, Bool, true, false, true≢false, length, map, subst, Some, Ok, is_some, arith}
-use Rattle.std.specs.Prelude.{OnOk}
+use Rattle.std.proofs.Common.{◌≡◌, ◌≢◌, ◌∙◌, refl, sym, ap, ◌+◌, ◌<◌, ◌≤◌, Bool, true, false, true≢false, length, subst, Some, Ok, is_some, arith}
 use Rattle.deck_lines.specs.declared.line.Line.{Line}
 use Rattle.deck_lines.specs.declared.line.Line.TheVariants as lines
 use Rattle.wasp_session.specs.Steps.{DoesLine}

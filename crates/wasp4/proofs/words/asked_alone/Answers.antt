@@ -1,4 +1,4 @@
-use Rattle.std.proofs.Common.{◌≡◌, ◌∙◌, refl, sym, ℕ, false, List, None, codes, arith}
+use Rattle.std.proofs.Common.{◌≡◌, refl, ℕ, false, List, None, codes, arith}
 use Rattle.std.specs.Str.{bytes_eq}
 use Rattle.std.proofs.lemmas.Slice.Eq.{bytes_eq-Decides}
 use Rattle.wasp4.specs.Out.{asked_alone}
