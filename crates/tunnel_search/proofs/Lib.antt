@@ -1,3 +1,3 @@
-mod MovedTunnels
+pub mod MovedTunnels
 mod WorkedRows
 mod Years

@@ -4,6 +4,7 @@ mod CaseStudies
 mod CaseTables
 mod CaseTellings
 mod CheckSteps
+mod DescentSteps
 mod DetailSteps
 pub mod FollowSteps
 mod GenerationSteps

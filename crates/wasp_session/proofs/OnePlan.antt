@@ -62,10 +62,13 @@ front_admissible t plan n a le =
           rw (e, f) (a.grows k (omega (arith, h, long, le)));
     }
 
+pub no_admissible : (t : Table) (plan : List Scored) (year : ℕ) → IsAdmissible t plan → length plan ≡ length t.layers → IsInfeasible t year → ⊥
+no_admissible t plan year a whole i =
+    let le : year ≤ length plan = omega (arith, i.within.1, whole) in
+    i.none (record { plan = take year plan; admissible = front_admissible t plan year a le; long = length-take-le year plan le })
+
 pub no_plan : (t : Table) (plan : List Scored) (year : ℕ) → IsChosen t plan → IsInfeasible t year → ⊥
-no_plan t plan year c i =
-    let le : year ≤ length plan = omega (arith, i.within.1, c.whole) in
-    i.none (record { plan = take year plan; admissible = front_admissible t plan year c.admissible le; long = length-take-le year plan le })
+no_plan t plan year c i = no_admissible t plan year c.admissible c.whole i
 
 pub one_year : (t : Table) (x y : ℕ) → IsInfeasible t x → IsInfeasible t y → x ≡ y
 one_year t x y a b =

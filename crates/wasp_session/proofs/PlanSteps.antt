@@ -65,7 +65,7 @@ entry_is table k counts e is within placed =
     subst (IsEntry table.economy) placed.is (is.entries k [] within placed.place no_entry placed.within)
 
 -- the configuration of a planned year stands in its layer
-config_at : (plan : List Scored) (shown : List (List ℕ)) (k : ℕ) → shown ≡ configs plan → k < length plan → get_or shown k [] ≡ (entry_at plan k).config
+pub config_at : (plan : List Scored) (shown : List (List ℕ)) (k : ℕ) → shown ≡ configs plan → k < length plan → get_or shown k [] ≡ (entry_at plan k).config
 config_at plan shown k e within = ap (λ (xs : List (List ℕ)). get_or xs k []) e ∙ get_or-map (λ (z : Scored). z.config) plan k no_entry [] within
 
 pub length_is : (table : Table) (shown : List (List ℕ)) (total : ℕ) → IsPlanOf table shown total → length shown ≡ length table.layers

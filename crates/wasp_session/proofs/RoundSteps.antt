@@ -36,7 +36,7 @@ use Rattle.year_system.specs.System.{System}
 
 -- ---- a chosen configuration is in its tunnel
 
-accepted_in : (s : System) (l : Limit) (xs : List (List ℕ)) → All (λ e. Contains xs e.config) (accepted_of s l xs)
+pub accepted_in : (s : System) (l : Limit) (xs : List (List ℕ)) → All (λ e. Contains xs e.config) (accepted_of s l xs)
 accepted_in s l xs =
     All-filter (λ (e : Scored). is_accepted e.row l) (λ e. Contains xs e.config) (map (λ (x : List ℕ). record { config = x; row = row_of s x }) xs)
     (All-map (λ (e : Scored). Contains xs e.config) (λ (x : List ℕ). record { config = x; row = row_of s x }) xs (All-contains_itself xs))
@@ -53,7 +53,7 @@ in_tunnel d c tunnels table shown total k is plan lt =
     let same : k + 1 - 1 ≡ k = omega arith in
     subst (λ (n : ℕ). IsInTunnel (slice_index_or tunnels n (record { least = []; width = [] })) (get_or shown k [])) same listed.tunnel
 
-placed_of : (d : Says) (c : ℕ) (f : Found) → AreTunnels d f.tunnels → IsFound d c f → ArePlaced (greatest d) f.tunnels f.configs
+pub placed_of : (d : Says) (c : ℕ) (f : Found) → AreTunnels d f.tunnels → IsFound d c f → ArePlaced (greatest d) f.tunnels f.configs
 placed_of d c f are is = record {
   many = omega (arith, length_is is.table f.configs f.total is.is_plan, is.is_table.many, are.many);
   fit = are.fit;

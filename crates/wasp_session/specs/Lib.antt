@@ -1,6 +1,7 @@
 pub mod Accepted
 pub mod Case
 pub mod Checks
+pub mod Descent
 pub mod Follows
 pub mod Inner
 pub mod Keys

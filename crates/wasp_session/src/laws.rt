@@ -1,4 +1,5 @@
 //! Laws about what is told of lines: that it goes on line by line, and that it is one.
+ghost use Rattle.wasp_session.specs.Descent.{CostsNeverRise};
 ghost use Rattle.wasp_session.specs.Oneness.{
   JudgementsAreOne,
   KeyListsAreOne,
@@ -61,3 +62,8 @@ pub fn solved_cases_are_one()
 {
     listings_are_one();
 }
+
+/// The costs of the rounds of a case never rise, and a round behind one with a plan is not infeasible.
+pub fn costs_never_rise()
+    ensures { CostsNeverRise }
+{}

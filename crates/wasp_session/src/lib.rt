@@ -32,7 +32,7 @@ mod study;
 
 pub use command::{Command, Step};
 pub use laws::{
-    judgements_are_one, key_lists_are_one, refusals_are_one, reports_are_one, solved_cases_are_one,
-    telling_goes_on, telling_of_a_front, tellings_are_one,
+    costs_never_rise, judgements_are_one, key_lists_are_one, refusals_are_one, reports_are_one,
+    solved_cases_are_one, telling_goes_on, telling_of_a_front, tellings_are_one,
 };
 pub use session::Session;
