@@ -1,17 +1,16 @@
 -- A plan of a round is admissible behind it.
-use Rattle.std.proofs.Common.{◌≡◌, ◌∙◌, ap, sym, refl, subst, ℕ, ◌+◌, ◌-◌, ◌<◌, ◌≤◌, ◌⊎◌, inl, inr, ⊎_elim, Bool, true, false, All, Contains, List, [], ◌∷◌, filter, length, map, get_or, slice_index_or, arith}
-use Rattle.std.specs.List.{range_with_len}
+use Rattle.std.proofs.Common.{◌≡◌, ◌∙◌, ap, sym, refl, subst, ℕ, ◌+◌, ◌-◌, ◌<◌, ◌≤◌, ◌⊎◌, inl, inr, ⊎_elim, Bool, true, false, All, Contains, List, [], ◌∷◌, filter, length, map, arith}
 use Rattle.std.proofs.lemmas.Bool.{false≢true}
 use Rattle.std.proofs.lemmas.List.Elements.{All-contains, All-filter, All-map}
-use Rattle.std.proofs.lemmas.List.FromFn.{get_or-map-range_with_len, length-map-range_with_len}
+use Rattle.std.proofs.lemmas.List.FromFn.{get_or-map-range_with_len}
 use Rattle.checked_deck.specs.Systems.{system}
-use Rattle.checked_deck.specs.TypedDeck.{limit, margin}
+use Rattle.checked_deck.specs.TypedDeck.{limit}
 use Rattle.cost_terms.specs.Table.{Table, plan_cost}
 use Rattle.cost_terms.specs.declared.entries.Scored.{Scored}
 use Rattle.cost_terms.specs.declared.prices.CostData.{CostData}
 use Rattle.deck_check.specs.Readings.{Says, greatest, years}
-use Rattle.plan_program.specs.Chosen.{IsChosen, IsInfeasible, IsNoWorse}
-use Rattle.plan_program.specs.Plans.{IsAdmissible, entry_at, layer_at, no_entry}
+use Rattle.plan_program.specs.Chosen.{IsNoWorse}
+use Rattle.plan_program.specs.Plans.{IsAdmissible, entry_at, layer_at}
 use Rattle.plant_data.specs.Tunnels.{IsTunnelOf}
 use Rattle.plant_data.specs.declared.row.Limit.{Limit}
 use Rattle.plant_data.specs.declared.row.Tunnel.{Tunnel}
@@ -109,12 +108,14 @@ plan_behind d c f is next are behind =
     let plan = is.is_plan.plan in
     let old = is.is_plan.is_chosen in
     let long : length plan ≡ years d = old.whole ∙ is.is_table.many in
-    let whole : length plan ≡ length next.layers = long ∙ sym behind.many in
-    (record {
-      years = omega (arith, whole);
-      accepted = λ k h. accepted_behind d c f is next k (placed_of d c f are is) (omega (arith, h, long, are.many)) (omega (arith, h, long)) h behind;
-      grows = old.admissible.grows;
-    }, whole)
+    let whole : length plan ≡ length next.layers = long ∙ sym behind.many in (
+      record {
+        years = omega (arith, whole);
+        accepted = λ k h. accepted_behind d c f is next k (placed_of d c f are is) (omega (arith, h, long, are.many)) (omega (arith, h, long)) h behind;
+        grows = old.admissible.grows;
+      },
+      whole,
+    )
 
 no_dearer : (e : CostData) (one other : List Scored) → IsNoWorse e one other → plan_cost e one ≤ plan_cost e other
 no_dearer e one other (inl less) = omega (arith, less)

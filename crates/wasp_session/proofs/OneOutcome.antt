@@ -1,5 +1,5 @@
 -- A table has one outcome, as part of its one solution.
-use Rattle.std.proofs.Common.{◌≡◌, ◌∙◌, ap, sym, ℕ, List}
+use Rattle.std.proofs.Common.{◌≡◌, ◌∙◌, ap, sym, ℕ}
 use Rattle.cost_terms.specs.Table.{Table}
 use Rattle.plan_program.specs.Chosen.{IsOutcome}
 use Rattle.plan_program.specs.declared.solved.Outcome.{Outcome}
