@@ -6,7 +6,7 @@ use Rattle.deck_lines.specs.Grammar.{line_of}
 use Rattle.deck_lines.specs.declared.line.Line.{Line}
 use Rattle.report_text.specs.Lines.{keys_line}
 use Rattle.wasp_session.specs.Tasks.{AreTold, plan_task}
-use Rattle.wasp_session.specs.Told.{Told}
+use Rattle.deck_tellings.specs.Told.{Told}
 use Rattle.wasp_session.specs.declared.command.Command.TheVariants as commands
 use Rattle.wasp4.specs.Out.{IsFront, IsToldFront, IsWholeFront}
 use Rattle.wasp4.specs.Progress.{HasRoomFor}

@@ -4,7 +4,7 @@ use Rattle.std.proofs.lemmas.List.{append-nil}
 use Rattle.deck_lines.specs.declared.line.Line.{Line}
 use Rattle.wasp_session.specs.Oneness.{KeyListsAreOne, TellingOfAFront, TellingsAreOne}
 use Rattle.wasp_session.specs.Tasks.{AreTold, task_of}
-use Rattle.wasp_session.specs.Told.{Told}
+use Rattle.deck_tellings.specs.Told.{Told}
 use Rattle.wasp_session.specs.declared.command.Command.{Command}
 use Rattle.wasp4.specs.Going.{Effort}
 use Rattle.wasp4.specs.Oneness.{Begins, EndAlike, TextsAreOne, TextsGoOn, WorkersWriteOneText}

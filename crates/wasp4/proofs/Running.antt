@@ -14,12 +14,13 @@ use Rattle.sim_sweep.proofs.TogetherSteps.{together_none, together_then}
 use Rattle.sim_sweep.specs.Works.{HaveWorked}
 use Rattle.wasp_session.proofs.FollowSteps.{follows_line, follows_none}
 use Rattle.wasp_session.proofs.TellSteps.{told_more}
-use Rattle.wasp_session.specs.Checks.{Open, with_line}
+use Rattle.deck_tellings.specs.Checks.{Open, with_line}
 use Rattle.wasp_session.specs.Modes.{HasPlans, IsOfMode, check_mode, mode_of}
 use Rattle.wasp_session.specs.State.{IsState, State, begun, open_count}
-use Rattle.wasp_session.specs.Steps.{DoesLine, GainsFew, IsPlaced}
+use Rattle.wasp_session.specs.Steps.{DoesLine, IsPlaced}
+use Rattle.deck_tellings.specs.Learning.{GainsFew}
 use Rattle.wasp_session.specs.Tasks.{AreKeys, most_keys, most_plans, task_of}
-use Rattle.wasp_session.specs.Told.{Told, joined, nothing}
+use Rattle.deck_tellings.specs.Told.{Told, joined, nothing}
 use Rattle.wasp_session.specs.declared.command.Command.{Command}
 use Rattle.wasp_session.specs.declared.command.Command.TheVariants as commands
 use Rattle.wasp4.specs.Going.{Effort, HasBegun, HasRun, HasTaken, IsSpent, effort_by, most_rows}

@@ -11,7 +11,7 @@ use Rattle.deck_lines.specs.declared.fault.LineFault.{LineFault}
 use Rattle.deck_lines.specs.declared.fault.LineKind.TheVariants as kinds
 use Rattle.deck_lines.specs.declared.line.Line.{Line}
 use Rattle.deck_lines.specs.declared.line.Line.TheVariants as lines
-use Rattle.wasp_session.specs.Checks.{Open, check_count, open_at}
+use Rattle.deck_tellings.specs.Checks.{Open, check_count, open_at}
 use Rattle.wasp_session.specs.Tasks.{plan_count, task_of}
 use Rattle.wasp_session.specs.State.{State}
 use Rattle.wasp_session.specs.declared.command.Command.{Command}

@@ -13,12 +13,12 @@ use Rattle.report_text.specs.declared.refusals.Refusal.TheVariants.{Deck, Wide, 
 use Rattle.tunnel_configs.specs.Listed.{ListingsFit, box_size}
 use Rattle.checked_deck.specs.Systems.{system}
 use Rattle.checked_deck.specs.TypedDeck.{margin}
-use Rattle.wasp_session.specs.Listings.{IsOver, IsOverIn, deck_tunnels, tunnel_at}
+use Rattle.case_study.specs.Listings.{IsOver, IsOverIn, deck_tunnels, tunnel_at}
 use Rattle.deck_lines.specs.Deck.{body_of}
 use Rattle.deck_maker.specs.TrialDeck.{trial}
-use Rattle.wasp_session.specs.Solving.{IsSolvable}
+use Rattle.deck_tellings.specs.Solving.{IsSolvable}
 use Rattle.wasp_session.specs.State.{State, begun}
-use Rattle.wasp_session.specs.Steps.{HasPlaceFor}
+use Rattle.deck_tellings.specs.Learning.{HasPlaceFor}
 use Rattle.wasp_session.specs.declared.command.Command.TheVariants as commands
 use Rattle.year_system.specs.System.{size}
 use Rattle.wasp4.specs.Trial.{IsTrial, trial_says}

@@ -15,10 +15,12 @@ use Rattle.report_text.specs.Trial.{HasYear, trial_text}
 use Rattle.row_shelf.specs.Adds.{Adds}
 use Rattle.row_shelf.specs.Shelf.{Holds, ShelfIs, no_rows}
 use Rattle.sim_engine.specs.Engine.{Run, Work, raised}
-use Rattle.wasp_session.specs.Case.{IsTableOf}
-use Rattle.wasp_session.specs.Listings.{deck_tunnels}
-use Rattle.wasp_session.specs.Solving.{AreCaseKeys, DemandsCase, IsCaseWithin, LearnsCase, SolvedCasesAreOne}
-use Rattle.wasp_session.specs.State.{MemoryIs, State, no_memory}
+use Rattle.case_study.specs.Case.{IsTableOf}
+use Rattle.case_study.specs.Listings.{deck_tunnels}
+use Rattle.wasp_session.specs.Solving.{AreCaseKeys, SolvedCasesAreOne}
+use Rattle.deck_tellings.specs.Solving.{DemandsCase, IsCaseWithin, LearnsCase}
+use Rattle.deck_tellings.specs.Memory.{MemoryIs, no_memory}
+use Rattle.wasp_session.specs.State.{State}
 use Rattle.deck_lines.specs.Deck.{body_of}
 use Rattle.wasp4.proofs.TrialDecks.{begins_with}
 use Rattle.wasp4.proofs.Counts.{spent_on}

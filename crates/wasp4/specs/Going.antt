@@ -7,7 +7,7 @@ use Rattle.sim_sweep.specs.Works.{HaveWorked}
 use Rattle.wasp_session.specs.Follows.{Follows}
 use Rattle.wasp_session.specs.State.{State, begun, open_count}
 use Rattle.wasp_session.specs.Tasks.{AreTold, task_of}
-use Rattle.wasp_session.specs.Told.{Told}
+use Rattle.deck_tellings.specs.Told.{Told}
 use Rattle.wasp_session.specs.declared.command.Command.{Command}
 use Rattle.wasp_session.specs.declared.command.Command.TheVariants as commands
 

@@ -8,7 +8,7 @@ use Rattle.report_text.specs.Refusals.{malformed_line}
 use Rattle.sim_engine.specs.Engine.{Run}
 use Rattle.wasp_session.specs.Modes.{IsCommand}
 use Rattle.wasp_session.specs.Tasks.{AreKeys, AreTold, task_of}
-use Rattle.wasp_session.specs.Told.{Told}
+use Rattle.deck_tellings.specs.Told.{Told}
 use Rattle.wasp_session.specs.declared.command.Command.{Command}
 use Rattle.wasp_session.specs.declared.command.Command.TheVariants as commands
 use Rattle.wasp4.specs.Going.{Effort, IsSpent}

@@ -9,7 +9,7 @@ use Rattle.sim_engine.specs.Engine.{Run, Work}
 use Rattle.wasp_io.specs.Causes.{Rose}
 use Rattle.wasp_session.specs.State.{State}
 use Rattle.wasp_session.specs.Tasks.{AreKeys, AreTold, task_of}
-use Rattle.wasp_session.specs.Told.{Told}
+use Rattle.deck_tellings.specs.Told.{Told}
 use Rattle.wasp_session.specs.declared.command.Command.{Command}
 use Rattle.wasp4.specs.declared.asked.Asked.{Asked}
 use Rattle.wasp4.specs.declared.status.Ending.{Ending}

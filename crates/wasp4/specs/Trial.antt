@@ -12,8 +12,8 @@ use Rattle.plan_program.specs.declared.solved.Solved.{Solved}
 use Rattle.report_text.specs.Lines.{keys_line}
 use Rattle.report_text.specs.Trial.{trial_text}
 use Rattle.sim_engine.specs.Engine.{Run, Work}
-use Rattle.wasp_session.specs.Case.{IsTableOf}
-use Rattle.wasp_session.specs.Listings.{deck_tunnels}
+use Rattle.case_study.specs.Case.{IsTableOf}
+use Rattle.case_study.specs.Listings.{deck_tunnels}
 use Rattle.wasp_session.specs.Solving.{AreCaseKeys}
 use Rattle.wasp4.specs.Going.{Effort, IsSpent, effort_by}
 use Rattle.wasp4.specs.Progress.{IsCutShort}

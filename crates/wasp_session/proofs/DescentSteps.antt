@@ -23,13 +23,13 @@ use Rattle.sim_sweep.specs.Cases.{is_accepted}
 use Rattle.tunnel_configs.specs.Listed.{IsInTunnel}
 use Rattle.tunnel_search.specs.Search.{ArePlaced, config_of, moved_tunnel, tunnel_of}
 use Rattle.tunnel_search.proofs.MovedTunnels.{moved_contains}
-use Rattle.wasp_session.specs.Case.{IsTableOf}
+use Rattle.case_study.specs.Case.{IsTableOf}
 use Rattle.wasp_session.specs.Descent.{CostsNeverRise}
-use Rattle.wasp_session.specs.Listings.{AreTunnels, IsListedOf, Tunnels, tunnel_at}
-use Rattle.wasp_session.specs.Rounds.{IsFound, tunnels_behind}
-use Rattle.wasp_session.proofs.OnePlan.{no_admissible}
-use Rattle.wasp_session.proofs.PlanSteps.{config_at}
-use Rattle.wasp_session.proofs.RoundSteps.{accepted_in, placed_of}
+use Rattle.case_study.specs.Listings.{AreTunnels, IsListedOf, Tunnels, tunnel_at}
+use Rattle.deck_tellings.specs.Rounds.{IsFound, tunnels_behind}
+use Rattle.deck_tellings.proofs.OnePlan.{no_admissible}
+use Rattle.case_study.proofs.PlanSteps.{config_at}
+use Rattle.deck_tellings.proofs.RoundSteps.{accepted_in, placed_of}
 use Rattle.year_system.specs.System.{System}
 
 -- ---- what a filter keeps

@@ -17,15 +17,15 @@ use Rattle.row_shelf.specs.Adds.{Adds}
 use Rattle.row_shelf.specs.Shelf.{HoldsAll, ShelfIs, no_rows}
 use Rattle.sim_engine.specs.Engine.{Run, Work, raised}
 use Rattle.sim_sweep.specs.Works.{HaveWorked}
-use Rattle.wasp_session.specs.Checks.{Open, check_count, looking_back, open_at, open_behind, with_line}
+use Rattle.deck_tellings.specs.Checks.{Open, check_count, looking_back, open_at, open_behind, with_line}
 use Rattle.wasp_session.specs.Follows.{Follows}
-use Rattle.wasp_session.specs.Keys.{DemandsAtEnd}
+use Rattle.deck_tellings.specs.Checks.{DemandsAtEnd}
 use Rattle.wasp_session.specs.Modes.{IsOfMode, mode_of}
-use Rattle.wasp_session.specs.Said.{IsCheckTold}
+use Rattle.deck_tellings.specs.Said.{IsCheckTold}
 use Rattle.wasp_session.specs.State.{State, begun}
 use Rattle.wasp_session.specs.Steps.{DoesLine, IsTakenAt, line_asks, line_told}
 use Rattle.wasp_session.specs.Tasks.{AreKeys, AskAfter, AsksBehind, IsLineTold, Task, plan_count, task_of}
-use Rattle.wasp_session.specs.Told.{Told, plain}
+use Rattle.deck_tellings.specs.Told.{Told, plain}
 use Rattle.wasp_session.specs.declared.command.Command.{Command}
 use Rattle.wasp_session.specs.declared.command.Command.TheVariants as commands
 

@@ -1,45 +1,15 @@
-mod AcceptedSteps
-mod ApartSteps
-mod CaseStudies
-mod CaseTables
-mod CaseTellings
-mod CheckSteps
 mod DescentSteps
-mod DetailSteps
 pub mod FollowSteps
-mod GenerationSteps
-mod LearnOn
-mod LearnSteps
-mod LearnThen
+mod HeadTold
 mod LineSteps
-mod ListSteps
-mod ListedKeys
 pub mod ModeLines
 mod OneOutcome
-mod OnePlan
 mod OnenessCases
 mod OnenessChecks
 mod OnenessKeys
 mod OnenessRanks
-mod OnenessReports
 mod OnenessRounds
 mod OnenessTellings
-mod OverSteps
-mod PlanSteps
-mod PlanTold
-mod PrintSteps
-mod RankSteps
-mod ReportSteps
-mod ResultSteps
-mod RoundAnswers
-mod RoundSteps
-mod SearchSteps
-mod SettleSteps
-mod ShelfSteps
-mod SolveSteps
-mod StudyOn
-mod TellBehind
+mod SolvedIn
 pub mod TellSteps
 mod Wanting
-mod WhereErr
-mod YearSteps

@@ -11,14 +11,16 @@ use Rattle.report_text.specs.Lines.{keys_line}
 use Rattle.report_text.specs.Verdicts.{verdict_line}
 use Rattle.report_text.specs.declared.verdicts.Judged.{Judged}
 use Rattle.sim_engine.specs.Engine.{Run, Work}
-use Rattle.wasp_session.specs.Checks.{IsChecked, IsJudged, Open, nos_of, with_line}
+use Rattle.deck_tellings.specs.Checks.{IsChecked, IsJudged, Open, nos_of, with_line}
 use Rattle.wasp_session.specs.Inner.{TellsPlan}
-use Rattle.wasp_session.specs.Keys.{DemandsAtEnd, DemandsChecked, IsCheckedAtEnd}
-use Rattle.wasp_session.specs.Said.{IsCheckTold}
-use Rattle.wasp_session.specs.State.{MemoryIs, State, behind}
-use Rattle.wasp_session.specs.Steps.{Does, DoesLine, IsTakenAt, Learns, line_asks, line_told}
-use Rattle.wasp_session.specs.Told.{Told, nothing, plain}
-use Rattle.wasp_session.proofs.LearnSteps.{learns_none}
+use Rattle.deck_tellings.specs.Checks.{DemandsAtEnd, DemandsChecked, IsCheckedAtEnd}
+use Rattle.deck_tellings.specs.Said.{IsCheckTold}
+use Rattle.deck_tellings.specs.Memory.{MemoryIs}
+use Rattle.wasp_session.specs.State.{State, behind}
+use Rattle.wasp_session.specs.Steps.{Does, DoesLine, IsTakenAt, line_asks, line_told}
+use Rattle.deck_tellings.specs.Learning.{Learns}
+use Rattle.deck_tellings.specs.Told.{Told, nothing, plain}
+use Rattle.deck_tellings.proofs.LearnSteps.{learns_none}
 
 -- ---- states
 

@@ -4,7 +4,7 @@ use Rattle.cost_terms.specs.Table.{Table}
 use Rattle.plan_program.specs.Chosen.{IsOutcome}
 use Rattle.plan_program.specs.declared.solved.Outcome.{Outcome}
 use Rattle.plan_program.specs.declared.solved.Outcome.TheVariants.{Plan, Infeasible}
-use Rattle.wasp_session.proofs.OnePlan.{no_plan, one_chosen, one_year}
+use Rattle.deck_tellings.proofs.OnePlan.{no_plan, one_chosen, one_year}
 
 pub one_outcome : (t : Table) (x y : Outcome) → IsOutcome t x → IsOutcome t y → x ≡ y
 one_outcome t (Plan xs total) (Plan ys other) a b =

@@ -7,12 +7,12 @@ use Rattle.plan_program.specs.declared.solved.Solved.{Solved}
 use Rattle.plan_program.proofs.OneSolution.{one_solution}
 use Rattle.sim_engine.specs.Engine.{Run}
 use Rattle.tunnel_configs.specs.Listed.{ListingsAreOne}
-use Rattle.wasp_session.specs.Case.{IsTableOf}
-use Rattle.wasp_session.specs.Listings.{deck_tunnels}
+use Rattle.case_study.specs.Case.{IsTableOf}
+use Rattle.case_study.specs.Listings.{deck_tunnels}
 use Rattle.wasp_session.specs.Oneness.{AreSameKeys}
 use Rattle.wasp_session.specs.Solving.{AreCaseKeys, SolvedCasesAreOne}
 use Rattle.wasp_session.proofs.OnenessKeys.{no_longer}
-use Rattle.wasp_session.proofs.OnenessReports.{table_one}
+use Rattle.case_study.proofs.OnenessReports.{table_one}
 
 solved_one : ListingsAreOne → (d : Says) (c : ℕ) (one other : Table) (s t : Solved) → IsTableOf d c (deck_tunnels d c) one → IsTableOf d c (deck_tunnels d c) other → IsSolution one s → IsSolution other t → s ≡ t
 solved_one listings d c one other s t a b u v =

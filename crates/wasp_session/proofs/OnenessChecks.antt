@@ -14,9 +14,9 @@ use Rattle.report_text.specs.declared.refusals.Refusal.TheVariants.{Deck, Wide, 
 use Rattle.report_text.specs.declared.verdicts.Judged.{Judged}
 use Rattle.report_text.specs.declared.verdicts.Judged.TheVariants.{Refused, Form, Said}
 use Rattle.tunnel_configs.specs.Listed.{ListingsAreOne}
-use Rattle.wasp_session.proofs.OnenessReports.{over_in_apart, over_in_one, table_one}
-use Rattle.wasp_session.specs.Checks.{IsFormFaultOf, IsInForm, IsJudged, IsVerdictOf, Open}
-use Rattle.wasp_session.specs.Listings.{AreWithin, IsOverIn, deck_tunnels}
+use Rattle.case_study.proofs.OnenessReports.{over_in_apart, over_in_one, table_one}
+use Rattle.deck_tellings.specs.Checks.{IsFormFaultOf, IsInForm, IsJudged, IsVerdictOf, Open}
+use Rattle.case_study.specs.Listings.{AreWithin, IsOverIn, deck_tunnels}
 use Rattle.wasp_session.specs.Oneness.{JudgementsAreOne}
 
 -- something is so and is what is said, or it cannot be and the rest decides

@@ -13,12 +13,12 @@ use Rattle.report_text.specs.Refusals.{refusal_line}
 use Rattle.report_text.specs.declared.refusals.Refusal.{Refusal}
 use Rattle.report_text.specs.declared.refusals.Refusal.TheVariants.{Deck}
 use Rattle.tunnel_configs.specs.Listed.{ListingsAreOne}
-use Rattle.wasp_session.proofs.OnenessReports.{over_in_apart, over_in_one, table_one}
+use Rattle.case_study.proofs.OnenessReports.{over_in_apart, over_in_one, table_one}
 use Rattle.wasp_session.proofs.TellSteps.{both_are, joined_one}
-use Rattle.wasp_session.specs.Listings.{deck_tunnels}
-use Rattle.wasp_session.specs.Ranks.{AreCasesRanked, IsBestTold, IsCaseOverTold, IsCaseRanked, IsDeckRanked, IsRankingTold}
-use Rattle.wasp_session.specs.Said.{IsFaultTold}
-use Rattle.wasp_session.specs.Told.{Told, nothing, plain}
+use Rattle.case_study.specs.Listings.{deck_tunnels}
+use Rattle.deck_tellings.specs.Ranks.{AreCasesRanked, IsBestTold, IsCaseOverTold, IsCaseRanked, IsDeckRanked, IsRankingTold}
+use Rattle.deck_tellings.specs.Said.{IsFaultTold}
+use Rattle.deck_tellings.specs.Told.{Told, nothing, plain}
 
 -- ---- a case
 

@@ -11,14 +11,14 @@ use Rattle.report_text.specs.declared.refusals.Refusal.{Refusal}
 use Rattle.report_text.specs.declared.refusals.Refusal.TheVariants.{Deck}
 use Rattle.report_text.specs.declared.rounds.Found.{Found}
 use Rattle.tunnel_configs.specs.Listed.{ListingsAreOne}
-use Rattle.wasp_session.proofs.OnePlan.{one_year}
-use Rattle.wasp_session.proofs.OnenessReports.{over_in_apart, over_in_one, table_one}
-use Rattle.wasp_session.proofs.RoundSteps.{found_not_barred, found_not_over, found_one}
+use Rattle.deck_tellings.proofs.OnePlan.{one_year}
+use Rattle.case_study.proofs.OnenessReports.{over_in_apart, over_in_one, table_one}
+use Rattle.deck_tellings.proofs.RoundSteps.{found_not_barred, found_not_over, found_one}
 use Rattle.wasp_session.proofs.TellSteps.{both_are, joined_one}
-use Rattle.wasp_session.specs.Listings.{Tunnels, deck_tunnels}
-use Rattle.wasp_session.specs.Rounds.{AreCasesSearched, AreRounds, EndsBarred, EndsOver, GoesBehind, IsCaseSearched, IsDeckSearched, IsSearchTold, IsSettled, tunnels_behind}
-use Rattle.wasp_session.specs.Said.{IsFaultTold}
-use Rattle.wasp_session.specs.Told.{Told, nothing, plain}
+use Rattle.case_study.specs.Listings.{Tunnels, deck_tunnels}
+use Rattle.deck_tellings.specs.Rounds.{AreCasesSearched, AreRounds, EndsBarred, EndsOver, GoesBehind, IsCaseSearched, IsDeckSearched, IsSearchTold, IsSettled, tunnels_behind}
+use Rattle.deck_tellings.specs.Said.{IsFaultTold}
+use Rattle.deck_tellings.specs.Told.{Told, nothing, plain}
 
 -- ---- the rounds of a case
 

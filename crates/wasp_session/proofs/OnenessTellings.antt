@@ -15,16 +15,16 @@ use Rattle.report_text.specs.declared.verdicts.Judged.{Judged}
 use Rattle.tunnel_configs.specs.Listed.{ListingsAreOne}
 use Rattle.wasp_session.proofs.OnenessChecks.{one_judgement}
 use Rattle.wasp_session.proofs.OnenessKeys.{one_key_list}
-use Rattle.wasp_session.proofs.OnenessReports.{one_refusal, one_report}
+use Rattle.case_study.proofs.OnenessReports.{one_refusal, one_report}
 use Rattle.wasp_session.proofs.OnenessRanks.{best_one}
 use Rattle.wasp_session.proofs.OnenessRounds.{search_one}
 use Rattle.wasp_session.proofs.TellSteps.{both_are, joined_assoc, joined_one, nothing_joined, same_told}
-use Rattle.wasp_session.specs.Checks.{Open, check_count, nos_of, open_at}
-use Rattle.wasp_session.specs.Listings.{deck_tunnels}
+use Rattle.deck_tellings.specs.Checks.{Open, check_count, nos_of, open_at}
+use Rattle.case_study.specs.Listings.{deck_tunnels}
 use Rattle.wasp_session.specs.Oneness.{TellingOfAFront, TellingsAreOne}
-use Rattle.wasp_session.specs.Said.{AreCasesTold, IsCaseTold, IsCheckTold, IsDeckTold}
+use Rattle.deck_tellings.specs.Said.{AreCasesTold, IsCaseTold, IsCheckTold, IsDeckTold}
 use Rattle.wasp_session.specs.Tasks.{AreToldAfter, IsEndTold, IsLineTold, Task, plan_count, task_of}
-use Rattle.wasp_session.specs.Told.{Told, joined, nothing, plain}
+use Rattle.deck_tellings.specs.Told.{Told, joined, nothing, plain}
 use Rattle.wasp_session.specs.declared.command.Command.{Command}
 use Rattle.wasp_session.specs.declared.command.Command.TheVariants as commands
 

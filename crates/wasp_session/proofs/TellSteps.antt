@@ -4,7 +4,7 @@ use Rattle.std.proofs.lemmas.List.{append-nil}
 use Rattle.deck_lines.specs.declared.line.Line.{Line}
 use Rattle.wasp_session.specs.Oneness.{TellingsGoOn}
 use Rattle.wasp_session.specs.Tasks.{AreToldAfter, IsLineTold, Task, TellingGoesOn, task_of}
-use Rattle.wasp_session.specs.Told.{AreJoined, Told, joined, nothing}
+use Rattle.deck_tellings.specs.Told.{AreJoined, Told, joined, nothing}
 
 pub same_told : (x y : Told) → x.text ≡ y.text → x.details ≡ y.details → x.nos ≡ y.nos → x ≡ y
 same_told x y e f g = λ i. record { text = e i; details = f i; nos = g i }

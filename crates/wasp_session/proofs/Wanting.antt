@@ -5,12 +5,14 @@ use Rattle.deck_lines.specs.Deck.{body_of}
 use Rattle.deck_lines.specs.declared.line.Line.{Line}
 use Rattle.deck_lines.specs.declared.line.Line.TheVariants as lines
 use Rattle.sim_engine.specs.Engine.{Run, Work}
-use Rattle.wasp_session.specs.Checks.{IsChecked, Open}
+use Rattle.deck_tellings.specs.Checks.{IsChecked, Open}
 use Rattle.wasp_session.specs.Inner.{IsLostOn}
-use Rattle.wasp_session.specs.Keys.{DemandsAtEnd, DemandsChecked, IsCheckedAtEnd}
-use Rattle.wasp_session.specs.State.{MemoryIs, State}
-use Rattle.wasp_session.specs.Steps.{IsLost, IsTakenAt, IsWanting, IsWantingAt, line_asks}
-use Rattle.wasp_session.proofs.LearnSteps.{lost_none}
+use Rattle.deck_tellings.specs.Checks.{DemandsAtEnd, DemandsChecked, IsCheckedAtEnd}
+use Rattle.deck_tellings.specs.Memory.{MemoryIs}
+use Rattle.wasp_session.specs.State.{State}
+use Rattle.deck_tellings.specs.Learning.{IsLost}
+use Rattle.wasp_session.specs.Steps.{IsTakenAt, IsWanting, IsWantingAt, line_asks}
+use Rattle.deck_tellings.proofs.LearnSteps.{lost_none}
 
 -- a call that did nothing to the deck and the memory
 pub wanting : {X : Type 0} (Taken : Type 0) (Asks : Run → Type 0) (s t : State) (work : X → Work) (es : List X) → t.deck ≡ s.deck → t.command ≡ s.command → t.memory ≡ s.memory → IsTrue t.refused

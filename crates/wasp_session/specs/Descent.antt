@@ -4,8 +4,8 @@
 use Rattle.std.specs.Prelude.{◌≡◌, ℕ, ◌≤◌}
 use Rattle.deck_check.specs.Readings.{Says}
 use Rattle.report_text.specs.declared.rounds.Found.{Found}
-use Rattle.wasp_session.specs.Listings.{AreTunnels}
-use Rattle.wasp_session.specs.Rounds.{IsBarred, IsFound, tunnels_behind}
+use Rattle.case_study.specs.Listings.{AreTunnels}
+use Rattle.deck_tellings.specs.Rounds.{IsBarred, IsFound, tunnels_behind}
 
 -- what is known of the round behind one with a plan
 pub record GoesDown (d : Says) (c : ℕ) (f : Found) : Type 0 where

@@ -4,7 +4,7 @@ use Rattle.deck_lines.specs.Deck.{changed}
 use Rattle.deck_lines.specs.declared.line.Line.{Line}
 use Rattle.row_shelf.specs.Shelf.{HoldsAll}
 use Rattle.sim_engine.specs.Engine.{Run}
-use Rattle.wasp_session.specs.Checks.{check_count, open_at}
+use Rattle.deck_tellings.specs.Checks.{check_count, open_at}
 use Rattle.wasp_session.specs.State.{State}
 use Rattle.wasp_session.specs.Tasks.{AreKeys, Task, plan_count}
 

@@ -1,28 +1,14 @@
 -- The text of a script is one: what is told of the same lines is the same, however it was come by, and so are the
 -- keys that they demand. This program's own.
-use Rattle.std.specs.Prelude.{◌≡◌, ◌↔◌, ℕ, List, ◌++◌, Contains, length}
+use Rattle.std.specs.Prelude.{◌≡◌, ◌↔◌, List, ◌++◌, Contains, length}
 use Rattle.deck_check.specs.Readings.{Says}
 use Rattle.deck_lines.specs.declared.line.Line.{Line}
-use Rattle.report_text.specs.declared.data.CaseReport.{CaseReport}
-use Rattle.report_text.specs.declared.refusals.Refusal.{Refusal}
 use Rattle.report_text.specs.declared.verdicts.Judged.{Judged}
 use Rattle.sim_engine.specs.Engine.{Run}
-use Rattle.wasp_session.specs.Case.{IsReportOf}
-use Rattle.wasp_session.specs.Checks.{IsJudged, Open}
-use Rattle.wasp_session.specs.Listings.{IsRefusalOf, IsTaken, Tunnels}
+use Rattle.deck_tellings.specs.Checks.{IsJudged, Open}
 use Rattle.wasp_session.specs.Tasks.{AreKeys, AreTold, AreToldAfter, TellingGoesOn, task_of}
-use Rattle.wasp_session.specs.Told.{Told, joined}
+use Rattle.deck_tellings.specs.Told.{Told, joined}
 use Rattle.wasp_session.specs.declared.command.Command.{Command}
-
--- a deck is refused for one reason, and not refused where a PLAN on it is taken
-pub record RefusalsAreOne : Type 0 where
-  pub one : (d : Says) (r s : Refusal) → IsRefusalOf d r → IsRefusalOf d s → r ≡ s
-  pub apart : (d : Says) (r : Refusal) → IsRefusalOf d r → IsTaken d → ⊥
-
--- a case of a deck has one report under tunnels
-abbrev pub ReportsAreOne : Type 0
-ReportsAreOne = (d : Says) (c : ℕ) (tunnels : Tunnels) (one other : CaseReport)
-    → IsReportOf d c tunnels one → IsReportOf d c tunnels other → one ≡ other
 
 -- one thing is said of a certificate on a deck
 abbrev pub JudgementsAreOne : Type 0

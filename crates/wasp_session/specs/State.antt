@@ -3,20 +3,13 @@ use Rattle.std.specs.Prelude.{◌≡◌, ℕ, ◌+◌, ◌≤◌, Bool, false, L
 use Rattle.deck_lines.specs.Deck.{changed}
 use Rattle.deck_lines.specs.declared.line.Line.{Line}
 use Rattle.deck_lines.specs.declared.statement.Statement.{Statement}
-use Rattle.row_shelf.specs.Shelf.{IsShelf, ShelfIs, no_rows}
-use Rattle.wasp_session.specs.Checks.{Open, check_count, open_behind}
+use Rattle.row_shelf.specs.Shelf.{IsShelf}
+use Rattle.deck_tellings.specs.Checks.{Open, check_count, open_behind}
 use Rattle.wasp_session.specs.Modes.{HasPlans, IsCommand}
 use Rattle.wasp_session.specs.Tasks.{plan_count}
 use Rattle.wasp_session.specs.declared.command.Command.{Command}
 use Rattle.wasp_session.specs.declared.command.Command.TheVariants as commands
-
--- its memory: the shelf, and how many rows were filled for it by sweeps
-pub record MemoryIs : Type 0 where
-  pub shelf : ShelfIs
-  pub tally : ℕ
-
-abbrev pub no_memory : MemoryIs
-no_memory = record { shelf = no_rows; tally = 0 }
+use Rattle.deck_tellings.specs.Memory.{MemoryIs, no_memory}
 
 -- what it is for, the deck as edited so far, the memory, the numbers of PLAN and CHECK lines, the open CHECK, how many
 -- checks said NO, and whether memory was wanting

@@ -11,13 +11,14 @@ use Rattle.report_text.specs.Lines.{heading, keys_line}
 use Rattle.report_text.specs.Ranking.{best_heading}
 use Rattle.report_text.specs.Rounds.{search_heading}
 use Rattle.sim_engine.specs.Engine.{Run}
-use Rattle.wasp_session.specs.Checks.{check_count, open_at}
-use Rattle.wasp_session.specs.Keys.{Demands, DemandsAtEnd}
-use Rattle.wasp_session.specs.Listings.{IsTaken}
-use Rattle.wasp_session.specs.Ranks.{BestDemands, IsBestTold, IsDeckRanked}
-use Rattle.wasp_session.specs.Rounds.{IsDeckSearched, IsSearchTold, SearchDemands}
-use Rattle.wasp_session.specs.Said.{IsCheckTold, IsDeckTold, IsPlanTold}
-use Rattle.wasp_session.specs.Told.{AreJoined, Told, joined, nothing, plain}
+use Rattle.deck_tellings.specs.Checks.{check_count, open_at}
+use Rattle.case_study.specs.Keys.{Demands}
+use Rattle.deck_tellings.specs.Checks.{DemandsAtEnd}
+use Rattle.case_study.specs.Listings.{IsTaken}
+use Rattle.deck_tellings.specs.Ranks.{BestDemands, IsBestTold, IsDeckRanked}
+use Rattle.deck_tellings.specs.Rounds.{IsDeckSearched, IsSearchTold, SearchDemands}
+use Rattle.deck_tellings.specs.Said.{IsCheckTold, IsDeckTold, IsPlanTold}
+use Rattle.deck_tellings.specs.Told.{AreJoined, Told, joined, nothing, plain}
 use Rattle.wasp_session.specs.declared.command.Command.{Command}
 use Rattle.wasp_session.specs.declared.command.Command.TheVariants as commands
 

@@ -3,8 +3,6 @@ ghost use Rattle.wasp_session.specs.Descent.{CostsNeverRise};
 ghost use Rattle.wasp_session.specs.Oneness.{
   JudgementsAreOne,
   KeyListsAreOne,
-  RefusalsAreOne,
-  ReportsAreOne,
   TellingOfAFront,
   TellingsAreOne,
   TellingsGoOn,
@@ -17,20 +15,6 @@ use tunnel_configs::listings_are_one;
 pub fn telling_goes_on()
     ensures { TellingsGoOn }
 {}
-
-/// A deck is refused for one reason, and for none where a PLAN on it is taken.
-pub fn refusals_are_one()
-    ensures { RefusalsAreOne }
-{
-    listings_are_one();
-}
-
-/// A case of a deck has one report.
-pub fn reports_are_one()
-    ensures { ReportsAreOne }
-{
-    listings_are_one();
-}
 
 /// One thing is said of a certificate on a deck.
 pub fn judgements_are_one()

@@ -6,27 +6,26 @@ ghost use Rattle.deck_lines.specs.Statements.{IsStatement};
 ghost use Rattle.deck_lines.specs.declared.line.Line.TheVariants as lines;
 ghost use Rattle.plan_program.specs.Chosen.{IsSolution};
 ghost use Rattle.report_text.specs.Lines.{keys_line};
-ghost use Rattle.wasp_session.specs.Case.{IsTableOf};
-ghost use Rattle.wasp_session.specs.Checks.{nos_of, with_line};
-ghost use Rattle.wasp_session.specs.Inner.{GoesOn, IsLostOn, TellsDeck, TellsPlan};
-ghost use Rattle.wasp_session.specs.Listings.{deck_tunnels};
+ghost use Rattle.case_study.specs.Case.{IsTableOf};
+ghost use Rattle.deck_tellings.specs.Checks.{nos_of, with_line};
+ghost use Rattle.deck_tellings.specs.Inner.{GoesOn};
+ghost use Rattle.wasp_session.specs.Inner.{IsLostOn, TellsDeck, TellsPlan};
+ghost use Rattle.case_study.specs.Listings.{deck_tunnels};
 ghost use Rattle.wasp_session.specs.Modes.{HasPlans, IsCommand, IsOfMode, mode_of};
-ghost use Rattle.wasp_session.specs.Solving.{IsCaseWanting, IsCaseWithin, IsSolvable, LearnsCase};
+ghost use Rattle.wasp_session.specs.Solving.{IsCaseWanting};
+ghost use Rattle.deck_tellings.specs.Solving.{IsCaseWithin, IsSolvable, LearnsCase};
 ghost use Rattle.wasp_session.specs.State.{IsState, begun, behind};
-ghost use Rattle.wasp_session.specs.Steps.{DoesLine, GainsFew, HasPlaceFor, IsPlaced, IsWantingAt};
+ghost use Rattle.wasp_session.specs.Steps.{DoesLine, IsPlaced, IsWantingAt};
+ghost use Rattle.deck_tellings.specs.Learning.{GainsFew, HasPlaceFor};
 ghost use Rattle.wasp_session.specs.Tasks.{head_of, most_keys, most_plans};
 ghost use Rattle.wasp_session.specs.declared.command.Command.TheVariants as commands;
 ghost use Rattle.wasp_session.specs.declared.command.Step.TheVariants as steps;
 
-use crate::best::{BestOf, rank_deck};
-use crate::checking::judge_deck;
 use crate::command::{Command, Step};
-use crate::memory::Memory;
-use crate::opened::OpenCheck;
-use crate::plan::plan_deck;
-use crate::searching::search_deck;
-use crate::solving::solve_deck;
 use deck_lines::{CertLine, Deck, Head, Line, Mode, Statement};
+use deck_tellings::{
+    BestOf, Memory, OpenCheck, judge_deck, plan_deck, rank_deck, search_deck, solve_deck,
+};
 use plan_certificate::Verdict;
 use report_text::{
     Judged, write_best_heading, write_heading, write_keys, write_search_heading, write_verdict,

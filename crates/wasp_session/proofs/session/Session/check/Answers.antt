@@ -1,13 +1,13 @@
 use Rattle.std.proofs.Common.{◌∙◌, refl, sym, subst, IsTrue}
 use Rattle.deck_lines.specs.Deck.{body_of}
 use Rattle.deck_lines.specs.declared.line.Line.TheVariants as lines
-use Rattle.wasp_session.specs.Checks.{IsChecked}
-use Rattle.wasp_session.specs.Keys.{DemandsChecked}
+use Rattle.deck_tellings.specs.Checks.{IsChecked}
+use Rattle.deck_tellings.specs.Checks.{DemandsChecked}
 use Rattle.wasp_session.specs.State.{State}
-use Rattle.wasp_session.proofs.LearnSteps.{lost_of}
+use Rattle.deck_tellings.proofs.LearnSteps.{lost_of}
 use Rattle.wasp_session.proofs.LineSteps.{none_at, verdict_at}
 use Rattle.wasp_session.proofs.Wanting.{wanting_at, wanting_at_end}
-use Rattle.wasp_session.proofs.WhereErr.{on_err}
+use Rattle.deck_tellings.proofs.WhereErr.{on_err}
 use Rattle.wasp_session.proofs.session.Session.check.Goals as goal
 
 pub returns-then-self-clause-err : goal.returns-then-self-clause-err

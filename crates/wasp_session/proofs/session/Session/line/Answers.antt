@@ -3,7 +3,7 @@ use Rattle.deck_lines.specs.declared.line.Line.TheVariants as lines
 use Rattle.wasp_session.specs.State.{State}
 use Rattle.wasp_session.proofs.LineSteps.{at_cert, at_drop, at_set, blank_line, end_line, quiet_line, same_line}
 use Rattle.wasp_session.proofs.Wanting.{same_wanting, wanting_at}
-use Rattle.wasp_session.proofs.WhereErr.{on_err}
+use Rattle.deck_tellings.proofs.WhereErr.{on_err}
 use Rattle.wasp_session.proofs.session.Session.line.Goals as goal
 
 pub returns-then-self-clause-err : goal.returns-then-self-clause-err

@@ -1,10 +1,10 @@
 use Rattle.std.proofs.Common.{refl, subst, IsTrue}
 use Rattle.deck_lines.specs.Deck.{body_of}
-use Rattle.wasp_session.specs.Solving.{DemandsCase, IsCaseWithin}
+use Rattle.deck_tellings.specs.Solving.{DemandsCase, IsCaseWithin}
 use Rattle.wasp_session.specs.State.{State}
-use Rattle.wasp_session.proofs.SolveSteps.{learns_in, wanting_in, within_in}
+use Rattle.wasp_session.proofs.SolvedIn.{learns_in, wanting_in, within_in}
 use Rattle.wasp_session.proofs.Wanting.{wanting}
-use Rattle.wasp_session.proofs.WhereErr.{on_err}
+use Rattle.deck_tellings.proofs.WhereErr.{on_err}
 use Rattle.wasp_session.proofs.session.Session.solve_case.Goals as goal
 
 pub returns-then-self-clause-err : goal.returns-then-self-clause-err

@@ -2,9 +2,9 @@ use Rattle.std.proofs.lemmas.Result.{on_ok_weaker}
 use Rattle.deck_lines.specs.Deck.{body_of}
 use Rattle.wasp_session.specs.State.{State}
 use Rattle.wasp_session.specs.Tasks.{task_of}
-use Rattle.wasp_session.proofs.LearnSteps.{lost_none}
-use Rattle.wasp_session.proofs.PlanTold.{plan_told}
-use Rattle.wasp_session.proofs.WhereErr.{on_err}
+use Rattle.deck_tellings.proofs.LearnSteps.{lost_none}
+use Rattle.wasp_session.proofs.HeadTold.{plan_told}
+use Rattle.deck_tellings.proofs.WhereErr.{on_err}
 use Rattle.wasp_session.proofs.session.Session.tell_plan.Goals as goal
 
 pub returns-in_err-head-clause-err : goal.returns-in_err-head-clause-err

@@ -1,0 +1,10 @@
+pub mod DetailSteps
+pub mod GenerationSteps
+pub mod ListSteps
+pub mod OnenessReports
+pub mod PlanSteps
+pub mod PrintSteps
+pub mod ReportSteps
+pub mod ResultSteps
+pub mod SettleSteps
+pub mod YearSteps

@@ -1,0 +1,11 @@
+pub mod Accepted
+pub mod Checks
+pub mod Inner
+pub mod Learning
+pub mod Memory
+pub mod Ranks
+pub mod Rounds
+pub mod Said
+pub mod Searching
+pub mod Solving
+pub mod Told

@@ -1,5 +1,0 @@
-use Rattle.wasp_session.proofs.OnenessReports.{one_report}
-use Rattle.wasp_session.proofs.laws.reports_are_one.Goals as goal
-
-pub returns : goal.returns
-returns c = one_report c.listings_are_one.ensures

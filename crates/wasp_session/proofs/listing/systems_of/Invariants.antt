@@ -1,8 +1,0 @@
-use Rattle.std.proofs.Common.{◌≡◌, ◌+◌, length}
-use Rattle.deck_lines.specs.Deck.{body_of}
-use Rattle.row_shelf.specs.Asked.{EachAt}
-use Rattle.wasp_session.specs.Studies.{IsYearSystem}
-use Rattle.wasp_session.proofs.listing.systems_of.Given as goal
-
-abbrev pub invariant-loop-k : goal.invariant-loop-k
-invariant-loop-k l = (length l.systems.items ≡ l.k) × EachAt (λ k s. IsYearSystem (body_of l.typed) (k + 1) s) l.systems.items
