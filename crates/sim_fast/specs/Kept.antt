@@ -1,6 +1,6 @@
 -- What is kept for the beginnings of lists of units. This program's own; the contracts that other crates use do not
 -- speak of it.
-use Rattle.std.specs.Prelude.{◌≡◌, ℕ, ◌<◌, List, [], length, take, slice_index_or}
+use Rattle.std.specs.Prelude.{◌≡◌, ℕ, ◌<◌, ◌≤◌, List, [], length, take, slice_index_or}
 use Rattle.sim_fast.specs.Turns.{Stands}
 use Rattle.sim_fast.specs.declared.turn.TheConstants.{MAX_UNITS}
 use Rattle.sim_fast.specs.declared.turn.Turn.{Turn}
@@ -13,6 +13,12 @@ pub record KeptView : Type 0 where
   pub upper : List ℕ
   pub room : ℕ
   pub places : ℕ
+
+-- three rooms hold so many
+pub record HaveRooms (places one two three : ℕ) : Type 0 where
+  pub first : places ≤ one
+  pub second : places ≤ two
+  pub third : places ≤ three
 
 -- what is kept stands behind the first n units of a list
 abbrev pub StandsKept : (ℕ → ℕ) → List Turn → ℕ → KeptView → Type 0

@@ -1,45 +1,51 @@
 //! What is kept behind the beginning of a list of units.
-ghost use Rattle.std.specs.Prelude.{◌≡◌, ℕ, ◌+◌, ◌<◌, ◌≤◌, [], IsTrue, IfOk, length, take};
+ghost use Rattle.std.specs.Prelude.{◌≡◌, ℕ, ◌+◌, ◌<◌, ◌≤◌, [], IsTrue, IfOk, length, take, vec_capacity};
 ghost use Rattle.wasp_fixed.specs.Curves.{cell};
 ghost use Rattle.sim_fast.specs.Kept.{StandsBehind, StandsKept};
 ghost use Rattle.sim_fast.specs.Turns.{StandsAt};
 
-use crate::tail::Tail;
-use crate::turn::{MAX_UNITS, Turn, begins_with, copy_turns};
-use crate::workbench::{Workbench, copy_row};
+use crate::stored::StoredCurve;
+use crate::turn::{MAX_UNITS, Turn, begins_with};
+use crate::workbench::Workbench;
 use std::alloc::Global;
 use std::marker::Model;
 use wasp_fixed::OutOfMemory;
 
-/// A unit of no cells, which stands in a room before one is written there.
-const NO_TURN: Turn = Turn {
-    least: 0,
-    full: 0,
-    rate: 0,
-};
-
-/// The beginning of a list of units, the load past them, and what each of them covers in cells times `ONE`.
+/// The beginning of a list of units, the load past them, and what each of them covers in cells times `ONE`. There are
+/// no units where nothing is kept. The rooms are set aside once, and written to where something is kept.
 #[derive(Drop)]
 pub struct Kept {
     turns: Vec<Turn>,
     lower: Vec<u64>,
     upper: Vec<u64>,
-    tail: Tail,
-    /// So many units; none where nothing is kept.
-    count: usize,
+    curve: StoredCurve,
     /// The number of the list that last began with them.
     age: u64,
 }
 
 impl Model for Kept {
-    ghost use Rattle.std.specs.Prelude.{◌≡◌, ◌≤◌, length, take};
-    ghost use Rattle.sim_fast.specs.Kept.{KeptView};
+    ghost use Rattle.std.specs.Prelude.{◌≡◌, ◌≤◌, length, vec_capacity};
+    ghost use Rattle.sim_fast.specs.Kept.{HaveRooms, KeptView};
+    ghost use Rattle.sim_fast.specs.declared.turn.TheConstants.{MAX_UNITS};
 
     ghost Value = { KeptView };
 
-    ghost view = { λ k. record { turns = take k.count k.turns.items; cells = k.tail.cells; lower = k.lower.items; upper = k.upper.items; room = k.tail.room; places = length k.turns.items } };
+    ghost view = { λ k. record { turns = k.turns.items; cells = k.curve.cells; lower = k.lower.items; upper = k.upper.items; room = k.curve.room; places = MAX_UNITS } };
 
-    ghost invariant = { λ k. (k.count ≤ length k.turns.items) × (length k.lower.items ≡ length k.turns.items) × (length k.upper.items ≡ length k.turns.items) };
+    ghost invariant = { λ k. HaveRooms MAX_UNITS (vec_capacity k.turns) (vec_capacity k.lower) (vec_capacity k.upper) × (length k.turns.items ≤ MAX_UNITS) × (length k.turns.items ≤ length k.lower.items) × (length k.turns.items ≤ length k.upper.items) };
+}
+
+/// Writes items over those of a list with room for them.
+fn write_over<T: Copy>(list: &mut Vec<T>, items: &[T])
+    requires { length items.now ≤ vec_capacity list.old }
+    ensures items { list.new.items ≡ items.now }
+    ensures room { vec_capacity list.old ≤ vec_capacity list.new }
+{
+    list.clear();
+    match list.extend_from_slice(items) {
+        Ok(()) => {}
+        Err(_) => unreachable!(),
+    }
 }
 
 impl Kept {
@@ -51,11 +57,10 @@ impl Kept {
         ensures places { IfOk result (λ k. k.places ≡ MAX_UNITS) }
     {
         Ok(Kept {
-            turns: vec![in alloc; NO_TURN; MAX_UNITS]?,
-            lower: vec![in alloc; 0u64; MAX_UNITS]?,
-            upper: vec![in alloc; 0u64; MAX_UNITS]?,
-            tail: Tail::with_room(alloc, cells)?,
-            count: 0,
+            turns: Vec::with_capacity(alloc, MAX_UNITS)?,
+            lower: Vec::with_capacity(alloc, MAX_UNITS)?,
+            upper: Vec::with_capacity(alloc, MAX_UNITS)?,
+            curve: StoredCurve::with_room(alloc, cells)?,
             age: 0,
         })
     }
@@ -64,7 +69,7 @@ impl Kept {
     pub fn len(&self) -> usize
         ensures { result ≡ length self.now.turns }
     {
-        self.count
+        self.turns.len()
     }
 
     /// The number of the list that last began with them.
@@ -76,7 +81,7 @@ impl Kept {
     pub fn begins(&self, turns: &[Turn]) -> bool
         ensures { IsTrue result → self.now.turns ≡ take (length self.now.turns) turns.now }
     {
-        begins_with(turns, &self.turns[..self.count])
+        begins_with(turns, self.turns.as_slice())
     }
 
     /// Notes that a list began with the units.
@@ -90,7 +95,7 @@ impl Kept {
     pub fn clear(&mut self)
         ensures { self.new ≡ record self.old { turns = [] } }
     {
-        self.count = 0;
+        self.turns.clear();
         self.age = 0;
     }
 
@@ -102,12 +107,12 @@ impl Kept {
         ensures room { bench.new.room ≡ bench.old.room }
         ensures places { bench.new.places ≡ bench.old.places }
     {
-        let _within = self.tail.len();
+        let _within = self.curve.len();
         bench.resume(
-            &self.tail,
+            &self.curve,
             self.lower.as_slice(),
             self.upper.as_slice(),
-            self.count,
+            self.turns.len(),
         );
     }
 
@@ -122,11 +127,10 @@ impl Kept {
         ensures room { self.new.room ≡ self.old.room }
         ensures places { self.new.places ≡ self.old.places }
     {
-        copy_turns(turns, n, self.turns.as_mut_slice());
-        copy_row(bench.lower(), n, self.lower.as_mut_slice());
-        copy_row(bench.upper(), n, self.upper.as_mut_slice());
-        self.tail.copy_from(bench.curve());
-        self.count = n;
+        self.curve.keep(bench.curve());
+        write_over(&mut self.turns, &turns[..n]);
+        write_over(&mut self.lower, &bench.lower()[..n]);
+        write_over(&mut self.upper, &bench.upper()[..n]);
         self.age = age;
     }
 }

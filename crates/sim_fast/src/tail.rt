@@ -4,6 +4,7 @@ ghost use Rattle.wasp_fixed.specs.Curves.{area, cell, IsAtMostOne, NeverRises};
 ghost use Rattle.sim_fast.specs.Behind.{shifted_step};
 
 use crate::shift::{find_ones, is_start, put_behind, sum_cells, take_over};
+use crate::stored::StoredCurve;
 use std::alloc::Global;
 use std::marker::Model;
 use wasp_fixed::{M, ONE, OutOfMemory};
@@ -108,6 +109,35 @@ impl Tail {
         ensures room { self.new.room ≡ self.old.room }
     {
         let ends = take_over(find_ones(cells), cells, self.held.as_mut_slice());
+        self.used = ends.used;
+        self.ones = ends.ones;
+    }
+
+    /// The cells.
+    pub(crate) fn cells(&self) -> &[u32]
+        ensures value { result.now ≡ self.now.cells }
+        ensures falls { NeverRises (cell self.now.cells) }
+        ensures small { IsAtMostOne (cell self.now.cells) }
+    {
+        &self.held[..self.used]
+    }
+
+    /// So many cells at the front are one, and maybe more.
+    pub(crate) fn ones(&self) -> usize
+        ensures front { result ≤ length self.now.cells }
+        ensures first { (x : ℕ) → x < result → cell self.now.cells x ≡ ONE }
+    {
+        self.ones
+    }
+
+    /// Takes over the cells of a curve that was kept.
+    pub fn restore(&mut self, stored: &StoredCurve)
+        requires room { length stored.now.cells ≤ self.old.room }
+        ensures value { (x : ℕ) → cell self.new.cells x ≡ cell stored.now.cells x }
+        ensures len { length self.new.cells ≤ length stored.now.cells }
+        ensures room { self.new.room ≡ self.old.room }
+    {
+        let ends = take_over(stored.ones(), stored.cells(), self.held.as_mut_slice());
         self.used = ends.used;
         self.ones = ends.ones;
     }

@@ -36,14 +36,3 @@ pub fn begins_with(turns: &[Turn], start: &[Turn]) -> bool
     }
     true
 }
-
-/// Copies the first `n` turns.
-pub fn copy_turns(turns: &[Turn], n: usize, room: &mut [Turn])
-    requires turns { n ≤ length turns.now }
-    requires room { n ≤ length room.old }
-    ensures { take n room.new ≡ take n turns.now }
-{
-    for k in 0..n {
-        room[k] = turns[k];
-    }
-}

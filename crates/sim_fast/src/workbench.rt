@@ -4,6 +4,7 @@ ghost use Rattle.wasp_fixed.specs.Curves.{area, cell, IsAtMostOne, NeverRises};
 ghost use Rattle.sim_fast.specs.Behind.{shifted_step};
 ghost use Rattle.sim_fast.specs.Turns.{IsTurn, KeepsBench, StandsAt};
 
+use crate::stored::StoredCurve;
 use crate::tail::Tail;
 use crate::turn::{MAX_UNITS, Turn};
 use std::alloc::Global;
@@ -131,7 +132,7 @@ impl Workbench {
     }
 
     /// Goes on from what was kept behind the first `n` units.
-    pub fn resume(&mut self, curve: &Tail, lower: &[u64], upper: &[u64], n: usize)
+    pub fn resume(&mut self, curve: &StoredCurve, lower: &[u64], upper: &[u64], n: usize)
         requires room { length curve.now.cells ≤ self.old.room }
         requires lower { n ≤ length lower.now }
         requires upper { n ≤ length upper.now }
@@ -142,7 +143,7 @@ impl Workbench {
         ensures room { self.new.room ≡ self.old.room }
         ensures places { self.new.places ≡ self.old.places }
     {
-        self.curve.copy_from(curve);
+        self.curve.restore(curve);
         copy_row(lower, n, self.lower.as_mut_slice());
         copy_row(upper, n, self.upper.as_mut_slice());
     }
